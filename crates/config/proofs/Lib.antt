@@ -1,0 +1,3 @@
+-- Laws of a configuration that the proofs of this crate and of others cite.
+pub mod Stages
+pub mod Facts

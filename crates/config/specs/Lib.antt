@@ -1,0 +1,5 @@
+pub mod Limits
+pub mod Codes
+pub mod Bounds
+pub mod Leader
+pub mod Timers
