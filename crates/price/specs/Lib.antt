@@ -1,0 +1,4 @@
+pub mod Deviation
+pub mod Median
+pub mod Due
+pub mod Limbs
