@@ -1,14 +1,14 @@
--- Laws of marks: a first mark counts for one, a second for nothing.
+-- Laws of marks: a first mark counts for one, a second for nothing; marks are flags.
 use mathlib.Core.Path.{_≡_, refl, ap, sym, _∙_}
-use mathlib.Core.Bool.{true, false}
+use mathlib.Core.Bool.{Bool, true, false, _&&_, and-assoc, and-true, false≢true}
 use mathlib.Core.List.{List, [], _∷_}
 use Prim.Native.Nat.{ℕ, zero, suc, _≤_, _<_}
 use native.Mathlib.Omega.{arith}
 use borrow.Author.Tests.{eqb-true}
-use lib.Dec.{eqb}
-use lib.ListN.{length, getD, set, replicate}
+use lib.Dec.{eqb, leb}
+use lib.ListN.{length, getD, set, take, replicate}
 use lib.Seq.{set-getD}
-use Rattle.quorum.specs.Marks.{marked, mark, countMarks}
+use Rattle.quorum.specs.Marks.{flags, marked, mark, countMarks}
 use Rattle.quorum.proofs.Counts.{count-le-length, count-none, tick-comm}
 
 pub marks-once : (marks : List ℕ) (place : ℕ) → place < length marks → marked marks place ≡ false → countMarks (mark marks place) ≡ suc (countMarks marks)
@@ -24,3 +24,29 @@ marks-le-length marks = count-le-length (λ m. eqb m 1) marks
 
 pub marks-none : (n : ℕ) → countMarks (replicate n 0) ≡ 0
 marks-none n = count-none (λ m. eqb m 1) n 0 refl
+
+-- ---- places with a 0 or a 1
+
+pub flags-suc : (marks : List ℕ) (i : ℕ) → i < length marks → flags (take (suc i) marks) ≡ flags (take i marks) && leb (getD marks i 0) 1
+unfolding flags
+flags-suc [] i h = absurd (omega arith)
+flags-suc (m ∷ marks) zero h = and-true (leb m 1)
+flags-suc (m ∷ marks) (suc i) h = rw (flags-suc marks i (omega arith)) (sym (and-assoc (leb m 1) (flags (take i marks)) (leb (getD marks i 0) 1)))
+
+both-true : (a b : Bool) → a && b ≡ true → (a ≡ true) × (b ≡ true)
+both-true true b e = (refl, e)
+both-true false b e = absurd (false≢true e)
+
+-- all places are flags after one is marked, and where none is
+pub flags-mark : (marks : List ℕ) (place : ℕ) → flags marks ≡ true → flags (mark marks place) ≡ true
+unfolding flags
+flags-mark [] place e = e
+flags-mark (m ∷ marks) zero e = both-true (leb m 1) (flags marks) e .1
+flags-mark (m ∷ marks) (suc place) e =
+    let p = both-true (leb m 1) (flags marks) e in
+    rw (p .0) (flags-mark marks place (p .1))
+
+pub flags-none : (n : ℕ) → flags (replicate n 0) ≡ true
+unfolding flags
+flags-none zero = refl
+flags-none (suc n) = flags-none n

@@ -2,9 +2,9 @@
 // Every function takes a slice, so nothing here knows how many members a feed can have.
 ghost use mathlib.Core.Path.{_≡_};
 ghost use Prim.Native.Nat.{_+_, _*_, _≤_, _<_};
-ghost use lib.ListN.{length, drop};
+ghost use lib.ListN.{length, take, drop};
 ghost use Rattle.quorum.specs.Counts.{countAbove, countReaching, reached};
-ghost use Rattle.quorum.specs.Marks.{mark, countMarks};
+ghost use Rattle.quorum.specs.Marks.{flags, mark, countMarks};
 ghost use Rattle.quorum.specs.First.{firstClear, allSet, firstRepeat, column};
 
 // How many entries exceed x.
@@ -50,6 +50,19 @@ pub fn reached(entries: &[u32], k: usize) -> u32
     top
 }
 
+// Whether each place has a 0 or a 1.
+pub fn flags(marks: &[u8]) -> bool
+    ensures { λ r. ⌜ r ≡ flags (now (marks .entry)) ⌝ }
+{
+    let mut good = true;
+    let mut i: usize = 0;
+    while i < marks.len() {
+        good = good & (marks[i] <= 1);
+        i += 1;
+    }
+    good
+}
+
 // Marks a place.
 pub fn mark(marks: &mut [u8], place: usize)
     requires { ⌜ place < length (now marks) ⌝ }
@@ -58,13 +71,14 @@ pub fn mark(marks: &mut [u8], place: usize)
     marks[place] = 1;
 }
 
-// How many places are marked.
-pub fn count_marks(marks: &[u8]) -> usize
-    ensures { λ r. ⌜ r ≡ countMarks (now (marks .entry)) ⌝ }
+// How many of the first `many` places are marked.
+pub fn count_marks(marks: &[u8], many: usize) -> usize
+    requires { ⌜ many ≤ length (now marks) ⌝ }
+    ensures { λ r. ⌜ r ≡ countMarks (take many (now (marks .entry))) ⌝ }
 {
     let mut n: usize = 0;
     let mut i: usize = 0;
-    while i < marks.len() {
+    while i < many {
         if marks[i] == 1 {
             n += 1;
         }

@@ -6,17 +6,16 @@ use native.Mathlib.Omega.{arith}
 use borrow.Author.Needs.{needs}
 use borrow.Author.Tests.{eq-eqb, ne-eqb}
 use lib.ListN.{length, take}
-use lib.Seq.{take-length}
 use Rattle.quorum.specs.Marks.{countMarks}
 use Rattle.quorum.proofs.Counts.{count-next}
 use Rattle.quorum.proofs.count_marks.Statement.{statement}
 use Rattle.quorum.proofs.count_marks.Tie as tie
 
 abbrev Inv-loop : tie.InvT-loop
-Inv-loop marks n₀ i₀ n i = (i ≤ length marks) × (n ≤ i) × (n ≡ countMarks (take i marks))
+Inv-loop marks many n₀ i₀ n i = (i ≤ many) × (n ≤ i) × (n ≡ countMarks (take i marks))
 
 abbrev μ-loop : tie.MeasureT-loop
-μ-loop marks n₀ i₀ n i = length marks - i
+μ-loop marks many n₀ i₀ n i = many - i
 
 loop-holds : tie.Need-loop-holds Inv-loop μ-loop
 loop-holds c = search needs
@@ -46,8 +45,8 @@ loop-again c =
 
 returns : tie.Need-returns Inv-loop μ-loop
 returns c =
-    let e : c .before .loop .i ≡ length (c .before .before .args .marks .now) = omega arith in
-    rw (e, take-length) at (c .before .loop .inv .2)
+    let e : c .before .loop .i ≡ c .before .before .args .many = omega arith in
+    rw (← e) (c .before .loop .inv .2)
 
 pub count-marks-spec : {M : Type 1} → statement M
 count-marks-spec =

@@ -1,0 +1,53 @@
+-- `frame::check_final` meets its contract: a body too short to hold m and s has another length than theirs.
+use mathlib.Core.Path.{_∙_, sym}
+use native.Mathlib.Omega.{arith}
+use denote.Ref.{now}
+use Rattle.frame.specs.Table.{bodyLength}
+use Rattle.frame.specs.Decode.{messageOf}
+use Rattle.frame.proofs.Readable.{readable-exact}
+use Rattle.frame.proofs.Checks.{other-length, own-length}
+use borrow.Author.Needs.{needs}
+use Rattle.frame.proofs.check_final.Statement.{statement}
+use Rattle.frame.proofs.check_final.Tie as tie
+
+returns : tie.Need-returns
+unfolding bodyLength
+returns c = other-length (c .before .before .args .n) 6 (now (c .before .before .args .body)) (λ e. omega arith)
+
+list-end-requires : tie.Need-list-end-requires
+list-end-requires c κs = search needs
+
+returns-2 : tie.Need-returns-2
+unfolding bodyLength
+returns-2 c = other-length (c .before .before .before .before .args .n) 6 (now (c .before .before .before .before .args .body)) (λ e. omega arith)
+
+final-length-requires : tie.Need-final-length-requires
+final-length-requires c κs = search needs
+
+returns-3 : tie.Need-returns-3
+returns-3 c = other-length (c .before .before .before .before .before .before .args .n) 6 (now (c .before .before .before .before .before .before .args .body)) (λ e. c .if3 .taken (e ∙ sym (c .before .final-length .ensures)))
+
+good-attested-requires : tie.Need-good-attested-requires
+good-attested-requires c κs = readable-exact _ _ (c .if3 .left ∙ c .before .final-length .ensures)
+
+ranged-requires : tie.Need-ranged-requires
+ranged-requires c κs = search needs
+
+returns-4 : tie.Need-returns-4
+unfolding messageOf
+returns-4 c =
+    let a = c .before .before .before .before .before .before .before .before .args in
+    own-length (a .n) 6 (now (a .body)) (c .before .before .if3 .left ∙ c .before .before .before .final-length .ensures) (c .before .good-attested .ensures) (c .ranged .ensures)
+
+pub check-final-spec : {M : Type 1} → statement M
+check-final-spec =
+    tie.close
+    (tie.spec
+    returns
+    list-end-requires
+    returns-2
+    final-length-requires
+    returns-3
+    good-attested-requires
+    ranged-requires
+    returns-4)

@@ -1,0 +1,37 @@
+-- `frame::report_signature` meets its contract: the signature lies behind the list, within the body.
+use native.Mathlib.Omega.{arith}
+use denote.Ref.{now}
+use Rattle.config.specs.Limits.{signatureSize}
+use Rattle.frame.specs.Table.{bodyLength}
+use Rattle.frame.specs.Decode.{listEnd}
+use Rattle.frame.proofs.Access.{part-from}
+use borrow.Author.Needs.{needs}
+use Rattle.frame.proofs.report_signature.Statement.{statement}
+use Rattle.frame.proofs.report_signature.Tie as tie
+
+list-end-requires : tie.Need-list-end-requires
+list-end-requires c κs = search needs
+
+add-end : tie.Need-add-end
+unfolding bodyLength
+add-end c = omega arith
+
+sub-result : tie.Need-sub-result
+sub-result c = search needs
+
+part-result-start : tie.Need-part-result-start
+part-result-start c = search needs
+
+part-result-end : tie.Need-part-result-end
+unfolding bodyLength
+part-result-end c = omega arith
+
+returns : tie.Need-returns
+returns c =
+    let b = now (c .before .before .before .args .body) in
+    part-from b (c .before .list-end .result) (listEnd b) signatureSize (c .before .list-end .ensures)
+
+pub report-signature-spec : {M : Type 1} → statement M
+report-signature-spec =
+    tie.close
+    (tie.spec list-end-requires add-end sub-result part-result-start part-result-end returns)
