@@ -1,13 +1,17 @@
 -- The worked examples of document 01, each a row of one table: what is put in, and what the document says comes out.
-use mathlib.Core.Bool.{Bool, true, false}
+use mathlib.Core.Bool.{Bool, true, false, cond}
 use mathlib.Core.List.{List, [], _∷_}
-use Prim.Native.Nat.{ℕ, _-_, _^_}
+use Prim.Native.Nat.{ℕ, suc, _-_, _^_}
 use lib.IntN.{ℤ, pos, negℤ}
 use Rattle.config.specs.Bounds.{configOf}
+use Rattle.config.specs.Codes.{numberOf, isDone}
 use Rattle.config.specs.Leader.{leaderOf}
 use Rattle.config.specs.declared.Config.{Config}
 use Rattle.price.specs.Deviation.{deviates}
 use Rattle.price.specs.Median.{medianOf}
+use Rattle.frame.specs.Message.{Observation}
+use Rattle.report.specs.Faults.{codeOf}
+use Rattle.report.specs.Stands.{listFault}
 
 -- what a row asks
 pub data Asked : Type 0 where
@@ -15,24 +19,32 @@ pub data Asked : Type 0 where
   deviation : ℕ → ℤ → ℤ → Asked
   -- with so many members, who leads this epoch
   leading : ℕ → ℕ → Asked
-  -- the median of these observations
-  median : List ℤ → Asked
+  -- with so many faulty, the median of a list of these values, of as many members
+  median : ℕ → List ℤ → Asked
 
 -- what comes out
 pub data Outcome : Type 0 where
   deviating : Bool → Outcome
   member : ℕ → Outcome
   price : ℤ → Outcome
+  refusal : ℕ → Outcome
 
 -- a configuration of four members, one of whom may be faulty, with this alpha
 abbrev pub four : ℕ → Config
 four alpha = configOf 0 4 1 1 1 alpha 0 0 1 (4 ∷ 0 ∷ 0 ∷ 0 ∷ 0 ∷ 0 ∷ 0 ∷ 0 ∷ [])
 
+-- these values as the observations of members that are numbered on
+abbrev pub numbered : ℕ → List ℤ → List Observation
+numbered j [] = []
+numbered j (v ∷ values) = record { member = j; value = v } ∷ numbered (suc j) values
+
 -- what the definitions give
 abbrev pub outcome : Asked → Outcome
 outcome (deviation alpha old new) = deviating (deviates (four alpha) old new)
 outcome (leading n epoch) = member (leaderOf n epoch)
-outcome (median values) = price (medianOf values)
+outcome (median f values) =
+    let wrong = listFault f (numbered 1 values) in
+    cond (isDone (codeOf wrong)) (price (medianOf values)) (refusal (numberOf (codeOf wrong)))
 
 pub record Row : Type 0 where
   pub asked : Asked
@@ -43,7 +55,7 @@ row asked says = record { asked = asked; says = says }
 
 -- "Alpha 5,000,000: 20,000 to 20,100 no, to 20,101 yes; −200 to −201 no, to −202 yes; 0 to 0 no, 0 to 1 yes; −2^63 to 2^63−1 yes."
 -- "With n = 4: e = 1 gives 2, e = 3 gives 4, e = 4 gives 1."
--- "Medians, n = 4, f = 1: 100, 105, 9000 gives 105; 100, 105, 107, 9000 gives 107"
+-- "Medians, n = 4, f = 1: 100, 105, 9000 gives 105; 100, 105, 107, 9000 gives 107; 100, 9000 is FEW."
 abbrev pub table : List Row
 table =
     row (deviation 5000000 (pos 20000) (pos 20100)) (deviating false)
@@ -56,6 +68,7 @@ table =
     ∷ row (leading 4 1) (member 2)
     ∷ row (leading 4 3) (member 4)
     ∷ row (leading 4 4) (member 1)
-    ∷ row (median (pos 100 ∷ pos 105 ∷ pos 9000 ∷ [])) (price (pos 105))
-    ∷ row (median (pos 100 ∷ pos 105 ∷ pos 107 ∷ pos 9000 ∷ [])) (price (pos 107))
+    ∷ row (median 1 (pos 100 ∷ pos 105 ∷ pos 9000 ∷ [])) (price (pos 105))
+    ∷ row (median 1 (pos 100 ∷ pos 105 ∷ pos 107 ∷ pos 9000 ∷ [])) (price (pos 107))
+    ∷ row (median 1 (pos 100 ∷ pos 9000 ∷ [])) (refusal 14)
     ∷ []
