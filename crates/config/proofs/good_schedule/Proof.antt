@@ -8,14 +8,8 @@ use Rattle.config.proofs.good_schedule.Tie as tie
 returns : tie.Need-returns
 returns c = simp (lt-leb _ _ (c .if1 .taken), and-false)
 
-sum-of-requires : tie.Need-sum-of-requires
-sum-of-requires c κs = search needs
-
-none-empty-requires : tie.Need-none-empty-requires
-none-empty-requires c κs = search needs
-
 returns-2 : tie.Need-returns-2
 returns-2 c = simp (c .none-empty .ensures, c .before .sum-of .ensures, le-leb _ _ (c .before .before .if1 .left), and-true)
 
 pub good-schedule-spec : {M : Type 1} → statement M
-good-schedule-spec = tie.close (tie.spec returns sum-of-requires none-empty-requires returns-2)
+good-schedule-spec = tie.close (tie.spec returns (λ c κs. search needs) (λ c κs. search needs) returns-2)

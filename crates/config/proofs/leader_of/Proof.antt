@@ -9,9 +9,6 @@ use Rattle.config.proofs.leader_of.Tie as tie
 returns : tie.Need-returns
 returns c = rw (eq-eqb _ _ (c .if1 .taken))
 
-rem-result : tie.Need-rem-result
-rem-result c = search needs
-
 cast-result : tie.Need-cast-result
 cast-result c = omega (arith, mod-lt (c .before .args .epoch) (c .before .pre))
 
@@ -22,4 +19,4 @@ returns-2 : tie.Need-returns-2
 returns-2 c = rw (ne-eqb _ _ (c .if1 .left))
 
 pub leader-of-spec : {M : Type 1} → statement M
-leader-of-spec = tie.close (tie.spec returns rem-result cast-result add-result returns-2)
+leader-of-spec = tie.close (tie.spec returns (λ c. search needs) cast-result add-result returns-2)

@@ -20,15 +20,6 @@ loop-holds : tie.Need-loop-holds Inv-loop μ-loop
 unfolding noneEmpty
 loop-holds c = search needs
 
-array-read-some : tie.Need-array-read-some Inv-loop μ-loop
-array-read-some c = search needs
-
-add-k : tie.Need-add-k Inv-loop μ-loop
-add-k c = search needs
-
-loop-less : tie.Need-loop-less Inv-loop μ-loop
-loop-less c = search needs
-
 loop-again : tie.Need-loop-again Inv-loop μ-loop
 loop-again c =
     let h : c .before .loop .k < length (c .before .before .args .t1) = search needs in
@@ -40,4 +31,4 @@ returns c =
     rw (← e) (c .before .loop .inv .1)
 
 pub none-empty-spec : {M : Type 1} → statement M
-none-empty-spec = tie.close (tie.spec Inv-loop μ-loop loop-holds array-read-some add-k loop-less loop-again returns)
+none-empty-spec = tie.close (tie.spec Inv-loop μ-loop loop-holds (λ c. search needs) (λ c. search needs) (λ c. search needs) loop-again returns)

@@ -22,9 +22,6 @@ loop-holds : tie.Need-loop-holds Inv-loop μ-loop
 unfolding sum
 loop-holds c = search needs
 
-array-read-total : tie.Need-array-read-total Inv-loop μ-loop
-array-read-total c = search needs
-
 byte : (c : tie.In-loop Inv-loop μ-loop) → Fits w8 (getD (c .before .before .args .t1) (c .before .loop .k) 0)
 byte c = search needs
 
@@ -33,12 +30,6 @@ cast-total c = omega (arith, byte c)
 
 add-total : tie.Need-add-total Inv-loop μ-loop
 add-total c = omega (arith, byte c)
-
-add-k : tie.Need-add-k Inv-loop μ-loop
-add-k c = search needs
-
-loop-less : tie.Need-loop-less Inv-loop μ-loop
-loop-less c = search needs
 
 loop-again : tie.Need-loop-again Inv-loop μ-loop
 loop-again c =
@@ -53,4 +44,4 @@ returns c =
 pub sum-of-spec : {M : Type 1} → statement M
 sum-of-spec =
     tie.close
-    (tie.spec Inv-loop μ-loop loop-holds array-read-total cast-total add-total add-k loop-less loop-again returns)
+    (tie.spec Inv-loop μ-loop loop-holds (λ c. search needs) cast-total add-total (λ c. search needs) (λ c. search needs) loop-again returns)

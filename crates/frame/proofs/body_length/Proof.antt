@@ -17,9 +17,6 @@ small : (c : tie.Start) → bodyLength (c .args .kind) (c .args .m) (c .args .s)
 unfolding table
 small c = length-most 255 65535 refl (c .args .kind) (c .args .m) (c .args .s) (c .pre .2) (c .pre .3)
 
-shape-of-requires : tie.Need-shape-of-requires
-shape-of-requires c κs = search needs
-
 mul-result : tie.Need-mul-result
 mul-result c = omega (arith, is-length (c .before), small (c .before .before))
 
@@ -37,4 +34,4 @@ returns c = is-length (c .before .before .before)
 
 pub body-length-spec : {M : Type 1} → statement M
 body-length-spec =
-    tie.close (tie.spec shape-of-requires mul-result add-result mul-result-2 add-result-2 returns)
+    tie.close (tie.spec (λ c κs. search needs) mul-result add-result mul-result-2 add-result-2 returns)

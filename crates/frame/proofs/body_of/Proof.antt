@@ -14,18 +14,6 @@ use Rattle.frame.proofs.body_of.Tie as tie
 starts : (c : tie.After-start) → StartsAt (now (c .before .before .before .before .args .frame)) (c .start .given .0 .0)
 starts c = start-at _ _ (sym (c .start .given .1) ∙ c .before .before .body-start .ensures)
 
-body-start-requires : tie.Need-body-start-requires
-body-start-requires c κs = search needs
-
-enum-known-start : tie.Need-enum-known-start
-enum-known-start c = search needs
-
-enum-told : tie.Need-enum-told
-enum-told c = search needs
-
-slice-aggregate-result : tie.Need-slice-aggregate-result
-slice-aggregate-result c = search needs
-
 returns : tie.Need-returns
 returns c =
     let s = c .before .before .before .before .before in
@@ -41,9 +29,6 @@ sub-result c = omega (arith, starts (c .before) .body, starts (c .before) .place
 part-result-start : tie.Need-part-result-start
 part-result-start c = omega (arith, starts (c .before) .body, starts (c .before) .place)
 
-part-result-end : tie.Need-part-result-end
-part-result-end c = search needs
-
 returns-2 : tie.Need-returns-2
 returns-2 c =
     let b = c .before .before in
@@ -56,13 +41,13 @@ pub body-of-spec : {M : Type 1} → statement M
 body-of-spec =
     tie.close
     (tie.spec
-    body-start-requires
-    enum-known-start
-    enum-told
-    slice-aggregate-result
+    (λ c κs. search needs)
+    (λ c. search needs)
+    (λ c. search needs)
+    (λ c. search needs)
     returns
     sub-end
     sub-result
     part-result-start
-    part-result-end
+    (λ c. search needs)
     returns-2)

@@ -15,18 +15,6 @@ returns : tie.Need-returns
 unfolding bodyStart
 returns c = rw (lt-ltb (length (now (c .before .before .args .frame))) trailerLength (c .if1 .taken))
 
-sub-end : tie.Need-sub-end
-sub-end c = search needs
-
-add-get-u32 : tie.Need-add-get-u32
-add-get-u32 c = search needs
-
-get-u32-requires : tie.Need-get-u32-requires
-get-u32-requires c κs = search needs
-
-cast-length : tie.Need-cast-length
-cast-length c = search needs
-
 returns-2 : tie.Need-returns-2
 unfolding bodyStart
 returns-2 c =
@@ -42,4 +30,4 @@ returns-3 c =
 pub body-start-spec : {M : Type 1} → statement M
 body-start-spec =
     tie.close
-    (tie.spec returns sub-end add-get-u32 get-u32-requires cast-length returns-2 returns-3)
+    (tie.spec returns (λ c. search needs) (λ c. search needs) (λ c κs. search needs) (λ c. search needs) returns-2 returns-3)

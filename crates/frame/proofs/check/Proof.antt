@@ -76,15 +76,6 @@ not-sender c = not-kind (c .before .before) ∙ rw (c .if4 .left)
 
 -- ---- the needs
 
-body-start-requires : tie.Need-body-start-requires
-body-start-requires c κs = search needs
-
-enum-known-start : tie.Need-enum-known-start
-enum-known-start c = search needs
-
-enum-told : tie.Need-enum-told
-enum-told c = search needs
-
 returns : tie.Need-returns
 unfolding frameAnswer
 returns c = rw (start-short (now (c .before .before .before .before .args .frame)) (sym (c .enum-told .given .1) ∙ c .before .before .body-start .ensures))
@@ -92,17 +83,8 @@ returns c = rw (start-short (now (c .before .before .before .before .args .frame
 sub-end : tie.Need-sub-end
 sub-end c = omega (arith, starts (c .before) .trailer)
 
-add-get-u16 : tie.Need-add-get-u16
-add-get-u16 c = search needs
-
 get-u16-requires : tie.Need-get-u16-requires
 get-u16-requires c κs = omega (arith, starts (c .before) .trailer)
-
-version-requires : tie.Need-version-requires
-version-requires c κs = search needs
-
-add-get-u64 : tie.Need-add-get-u64
-add-get-u64 c = search needs
 
 get-u64-requires : tie.Need-get-u64-requires
 get-u64-requires c κs = omega (arith, starts (c .before .before .before) .trailer)
@@ -122,9 +104,6 @@ unfolding afterVersion
 returns-4 c =
     let kind = kindIn (frame (versioned (c .before .before .before))) in
     sym (not-version (c .before .before .before) ∙ rw (le-leb 1 kind (omega arith), lt-leb kind 7 (c .if3 .taken)))
-
-add-sender : tie.Need-add-sender
-add-sender c = search needs
 
 shared-slice-read-sender : tie.Need-shared-slice-read-sender
 shared-slice-read-sender c = omega (arith, starts (kinded (c .before)) .trailer)
@@ -149,9 +128,6 @@ part-check-body-start c = omega (arith, starts (sent (c .before)) .place, starts
 part-check-body-end : tie.Need-part-check-body-end
 part-check-body-end c = omega (arith, starts (sent (c .before)) .place, starts (sent (c .before)) .trailer)
 
-check-body-requires : tie.Need-check-body-requires
-check-body-requires c κs = search needs
-
 returns-7 : tie.Need-returns-7
 unfolding afterSender
 returns-7 c =
@@ -168,26 +144,26 @@ pub check-spec : {M : Type 1} → statement M
 check-spec =
     tie.close
     (tie.spec
-    body-start-requires
-    enum-known-start
-    enum-told
+    (λ c κs. search needs)
+    (λ c. search needs)
+    (λ c. search needs)
     returns
     sub-end
-    add-get-u16
+    (λ c. search needs)
     get-u16-requires
-    version-requires
-    add-get-u64
+    (λ c κs. search needs)
+    (λ c. search needs)
     get-u64-requires
     returns-2
     shared-slice-read-kind
     returns-3
     returns-4
-    add-sender
+    (λ c. search needs)
     shared-slice-read-sender
     returns-5
     returns-6
     sub-check-body
     part-check-body-start
     part-check-body-end
-    check-body-requires
+    (λ c κs. search needs)
     returns-7)

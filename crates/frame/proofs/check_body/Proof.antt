@@ -5,27 +5,6 @@ use borrow.Author.Needs.{needs}
 use Rattle.frame.proofs.check_body.Statement.{statement}
 use Rattle.frame.proofs.check_body.Tie as tie
 
-check-newepoch-requires : tie.Need-check-newepoch-requires
-check-newepoch-requires c κs = search needs
-
-check-observe-req-requires : tie.Need-check-observe-req-requires
-check-observe-req-requires c κs = search needs
-
-check-observe-requires : tie.Need-check-observe-requires
-check-observe-requires c κs = search needs
-
-check-report-req-requires : tie.Need-check-report-req-requires
-check-report-req-requires c κs = search needs
-
-check-report-requires : tie.Need-check-report-requires
-check-report-requires c κs = search needs
-
-check-final-requires : tie.Need-check-final-requires
-check-final-requires c κs = search needs
-
-check-final-echo-requires : tie.Need-check-final-echo-requires
-check-final-echo-requires c κs = search needs
-
 returns : tie.Need-returns
 returns c = rw (c .before .match .keys1) (c .check-newepoch .ensures)
 
@@ -53,13 +32,13 @@ pub check-body-spec : {M : Type 1} → statement M
 check-body-spec =
     tie.close
     (tie.spec
-    check-newepoch-requires
-    check-observe-req-requires
-    check-observe-requires
-    check-report-req-requires
-    check-report-requires
-    check-final-requires
-    check-final-echo-requires
+    (λ c κs. search needs)
+    (λ c κs. search needs)
+    (λ c κs. search needs)
+    (λ c κs. search needs)
+    (λ c κs. search needs)
+    (λ c κs. search needs)
+    (λ c κs. search needs)
     returns
     returns-2
     returns-3

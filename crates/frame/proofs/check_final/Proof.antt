@@ -14,24 +14,15 @@ returns : tie.Need-returns
 unfolding bodyLength
 returns c = other-length (c .before .before .args .n) 6 (now (c .before .before .args .body)) (λ e. omega arith)
 
-list-end-requires : tie.Need-list-end-requires
-list-end-requires c κs = search needs
-
 returns-2 : tie.Need-returns-2
 unfolding bodyLength
 returns-2 c = other-length (c .before .before .before .before .args .n) 6 (now (c .before .before .before .before .args .body)) (λ e. omega arith)
-
-final-length-requires : tie.Need-final-length-requires
-final-length-requires c κs = search needs
 
 returns-3 : tie.Need-returns-3
 returns-3 c = other-length (c .before .before .before .before .before .before .args .n) 6 (now (c .before .before .before .before .before .before .args .body)) (λ e. c .if3 .taken (e ∙ sym (c .before .final-length .ensures)))
 
 good-attested-requires : tie.Need-good-attested-requires
 good-attested-requires c κs = readable-exact _ _ (c .if3 .left ∙ c .before .final-length .ensures)
-
-ranged-requires : tie.Need-ranged-requires
-ranged-requires c κs = search needs
 
 returns-4 : tie.Need-returns-4
 unfolding messageOf
@@ -44,10 +35,10 @@ check-final-spec =
     tie.close
     (tie.spec
     returns
-    list-end-requires
+    (λ c κs. search needs)
     returns-2
-    final-length-requires
+    (λ c κs. search needs)
     returns-3
     good-attested-requires
-    ranged-requires
+    (λ c κs. search needs)
     returns-4)

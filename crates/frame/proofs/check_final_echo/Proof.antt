@@ -6,12 +6,9 @@ use borrow.Author.Needs.{needs}
 use Rattle.frame.proofs.check_final_echo.Statement.{statement}
 use Rattle.frame.proofs.check_final_echo.Tie as tie
 
-check-final-requires : tie.Need-check-final-requires
-check-final-requires c κs = search needs
-
 returns : tie.Need-returns
 unfolding bodyAnswer bodyLength messageOf
 returns c = c .check-final .ensures
 
 pub check-final-echo-spec : {M : Type 1} → statement M
-check-final-echo-spec = tie.close (tie.spec check-final-requires returns)
+check-final-echo-spec = tie.close (tie.spec (λ c κs. search needs) returns)

@@ -10,9 +10,6 @@ use borrow.Author.Needs.{needs}
 use Rattle.frame.proofs.check_newepoch.Statement.{statement}
 use Rattle.frame.proofs.check_newepoch.Tie as tie
 
-body-length-requires : tie.Need-body-length-requires
-body-length-requires c κs = search needs
-
 returns : tie.Need-returns
 unfolding bodyLength
 returns c = other-length (c .before .before .before .args .n) 1 (now (c .before .before .before .args .body)) (λ e. c .if1 .taken (omega arith))
@@ -20,12 +17,6 @@ returns c = other-length (c .before .before .before .args .n) 1 (now (c .before 
 epoch-of-requires : tie.Need-epoch-of-requires
 unfolding bodyLength
 epoch-of-requires c κs = omega arith
-
-good-epoch-requires : tie.Need-good-epoch-requires
-good-epoch-requires c κs = search needs
-
-ranged-requires : tie.Need-ranged-requires
-ranged-requires c κs = search needs
 
 returns-2 : tie.Need-returns-2
 unfolding bodyLength messageOf
@@ -37,9 +28,9 @@ pub check-newepoch-spec : {M : Type 1} → statement M
 check-newepoch-spec =
     tie.close
     (tie.spec
-    body-length-requires
+    (λ c κs. search needs)
     returns
     epoch-of-requires
-    good-epoch-requires
-    ranged-requires
+    (λ c κs. search needs)
+    (λ c κs. search needs)
     returns-2)

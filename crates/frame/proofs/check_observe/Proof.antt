@@ -8,9 +8,6 @@ use borrow.Author.Needs.{needs}
 use Rattle.frame.proofs.check_observe.Statement.{statement}
 use Rattle.frame.proofs.check_observe.Tie as tie
 
-body-length-requires : tie.Need-body-length-requires
-body-length-requires c κs = search needs
-
 returns : tie.Need-returns
 unfolding bodyLength
 returns c = other-length (c .before .before .before .args .n) 3 (now (c .before .before .before .args .body)) (λ e. c .if1 .taken (omega arith))
@@ -18,9 +15,6 @@ returns c = other-length (c .before .before .before .args .n) 3 (now (c .before 
 good-head-requires : tie.Need-good-head-requires
 unfolding bodyLength
 good-head-requires c κs = omega arith
-
-ranged-requires : tie.Need-ranged-requires
-ranged-requires c κs = search needs
 
 returns-2 : tie.Need-returns-2
 unfolding bodyLength messageOf
@@ -30,4 +24,4 @@ returns-2 c =
 
 pub check-observe-spec : {M : Type 1} → statement M
 check-observe-spec =
-    tie.close (tie.spec body-length-requires returns good-head-requires ranged-requires returns-2)
+    tie.close (tie.spec (λ c κs. search needs) returns good-head-requires (λ c κs. search needs) returns-2)

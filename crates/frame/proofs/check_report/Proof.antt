@@ -16,30 +16,15 @@ returns : tie.Need-returns
 unfolding bodyLength
 returns c = other-length (c .before .before .args .n) 5 (now (c .before .before .args .body)) (λ e. omega arith)
 
-count-of-requires : tie.Need-count-of-requires
-count-of-requires c κs = search needs
-
-body-length-requires : tie.Need-body-length-requires
-body-length-requires c κs = search needs
-
 returns-2 : tie.Need-returns-2
 unfolding bodyLength
 returns-2 c =
     let a = c .before .before .before .before .before .args in
     other-length (a .n) 5 (now (a .body)) (λ e. c .if2 .taken (omega arith))
 
-good-head-requires : tie.Need-good-head-requires
-good-head-requires c κs = search needs
-
-stride-requires : tie.Need-stride-requires
-stride-requires c κs = search needs
-
 good-list-requires : tie.Need-good-list-requires
 unfolding bodyLength
 good-list-requires c κs = rw (c .stride .ensures) (omega arith)
-
-ranged-requires : tie.Need-ranged-requires
-ranged-requires c κs = search needs
 
 returns-3 : tie.Need-returns-3
 unfolding bodyLength messageOf
@@ -54,11 +39,11 @@ check-report-spec =
     tie.close
     (tie.spec
     returns
-    count-of-requires
-    body-length-requires
+    (λ c κs. search needs)
+    (λ c κs. search needs)
     returns-2
-    good-head-requires
-    stride-requires
+    (λ c κs. search needs)
+    (λ c κs. search needs)
     good-list-requires
-    ranged-requires
+    (λ c κs. search needs)
     returns-3)

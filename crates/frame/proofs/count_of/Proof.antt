@@ -5,12 +5,6 @@ use borrow.Author.Needs.{needs}
 use Rattle.frame.proofs.count_of.Statement.{statement}
 use Rattle.frame.proofs.count_of.Tie as tie
 
-sub-result : tie.Need-sub-result
-sub-result c = search needs
-
-shared-slice-read-result : tie.Need-shared-slice-read-result
-shared-slice-read-result c = search needs
-
 cast-result : tie.Need-cast-result
 cast-result c = omega (arith, c .shared-slice-known .given 5)
 
@@ -18,4 +12,4 @@ returns : tie.Need-returns
 returns c = (refl, omega (arith, c .shared-slice-known .given 5))
 
 pub count-of-spec : {M : Type 1} → statement M
-count-of-spec = tie.close (tie.spec sub-result shared-slice-read-result cast-result returns)
+count-of-spec = tie.close (tie.spec (λ c. search needs) (λ c. search needs) cast-result returns)

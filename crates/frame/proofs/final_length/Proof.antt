@@ -5,18 +5,9 @@ use borrow.Author.Needs.{needs}
 use Rattle.frame.proofs.final_length.Statement.{statement}
 use Rattle.frame.proofs.final_length.Tie as tie
 
-count-of-requires : tie.Need-count-of-requires
-count-of-requires c κs = search needs
-
-signer-count-requires : tie.Need-signer-count-requires
-signer-count-requires c κs = search needs
-
-body-length-requires : tie.Need-body-length-requires
-body-length-requires c κs = search needs
-
 returns : tie.Need-returns
 returns c = c .body-length .ensures ∙ ap₂ (bodyLength 6) (c .before .before .count-of .ensures .0) (c .before .signer-count .ensures .0)
 
 pub final-length-spec : {M : Type 1} → statement M
 final-length-spec =
-    tie.close (tie.spec count-of-requires signer-count-requires body-length-requires returns)
+    tie.close (tie.spec (λ c κs. search needs) (λ c κs. search needs) (λ c κs. search needs) returns)

@@ -18,9 +18,6 @@ returns-2 c =
     let kind = c .before .before .args .kind in
     rw (le-leb 1 kind (omega arith), lt-leb kind 7 (c .if2 .taken))
 
-shape-of-requires : tie.Need-shape-of-requires
-shape-of-requires c κs = search needs
-
 returns-3 : tie.Need-returns-3
 unfolding destinationOf
 returns-3 c =
@@ -34,4 +31,4 @@ returns-4 c =
     rw (le-leb 1 kind (omega arith), le-leb kind 7 (omega arith), sym (ap (λ (row : Shape). row .leader) (c .before .shape-of .ensures)) ∙ c .if3 .left)
 
 pub goes-to-spec : {M : Type 1} → statement M
-goes-to-spec = tie.close (tie.spec returns returns-2 shape-of-requires returns-3 returns-4)
+goes-to-spec = tie.close (tie.spec returns returns-2 (λ c κs. search needs) returns-3 returns-4)

@@ -15,9 +15,6 @@ use borrow.Author.Needs.{needs}
 use Rattle.frame.proofs.good_attested.Statement.{statement}
 use Rattle.frame.proofs.good_attested.Tie as tie
 
-count-of-requires : tie.Need-count-of-requires
-count-of-requires c κs = search needs
-
 returns : tie.Need-returns
 returns c =
     let a = c .before .before .before .args in
@@ -32,12 +29,6 @@ returns-2 c =
     let a = c .before .before .before .before .before .args in
     let b = now (a .b) in
     rw (many-refused (a .n) (λ (x : Signer). x .member) signerAt (shapeOf 6 .signer) (signerCountIn b) (drop (listEnd b + 1) b) (omega arith), and-false)
-
-good-head-requires : tie.Need-good-head-requires
-good-head-requires c κs = search needs
-
-stride-requires : tie.Need-stride-requires
-stride-requires c κs = search needs
 
 good-list-requires : tie.Need-good-list-requires
 unfolding shapeOf
@@ -56,12 +47,12 @@ pub good-attested-spec : {M : Type 1} → statement M
 good-attested-spec =
     tie.close
     (tie.spec
-    count-of-requires
+    (λ c κs. search needs)
     returns
     signer-count-requires
     returns-2
-    good-head-requires
-    stride-requires
+    (λ c κs. search needs)
+    (λ c κs. search needs)
     good-list-requires
     good-signers-requires
     returns-3)

@@ -9,9 +9,6 @@ use borrow.Author.Needs.{needs}
 use Rattle.frame.proofs.good_list.Statement.{statement}
 use Rattle.frame.proofs.good_list.Tie as tie
 
-count-of-requires : tie.Need-count-of-requires
-count-of-requires c κs = search needs
-
 members-in-requires : tie.Need-members-in-requires
 members-in-requires c κs = rw (c .count-of .ensures .0) (c .before .before .pre)
 
@@ -23,4 +20,4 @@ returns c =
     (sym (good-entries (a .n) (λ (o : Observation). o .member) observationAt (a .stride) (λ e. refl) (countIn b) (drop listPlace b)))
 
 pub good-list-spec : {M : Type 1} → statement M
-good-list-spec = tie.close (tie.spec count-of-requires members-in-requires returns)
+good-list-spec = tie.close (tie.spec (λ c κs. search needs) members-in-requires returns)

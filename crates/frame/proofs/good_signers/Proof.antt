@@ -24,9 +24,6 @@ add-members-in : tie.Need-add-members-in
 unfolding bodyLength
 add-members-in c = omega arith
 
-signer-stride-requires : tie.Need-signer-stride-requires
-signer-stride-requires c κs = search needs
-
 members-in-requires : tie.Need-members-in-requires
 unfolding bodyLength
 members-in-requires c κs = rw (c .signer-stride .ensures) (omega arith)
@@ -45,6 +42,6 @@ good-signers-spec =
     signer-count-requires
     list-end-requires
     add-members-in
-    signer-stride-requires
+    (λ c κs. search needs)
     members-in-requires
     returns)

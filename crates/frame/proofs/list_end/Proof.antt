@@ -8,12 +8,6 @@ use Rattle.frame.specs.Decode.{listPlace}
 use Rattle.frame.proofs.list_end.Statement.{statement}
 use Rattle.frame.proofs.list_end.Tie as tie
 
-stride-requires : tie.Need-stride-requires
-stride-requires c κs = search needs
-
-count-of-requires : tie.Need-count-of-requires
-count-of-requires c κs = search needs
-
 mul-result : tie.Need-mul-result
 unfolding shapeOf
 mul-result c = rw (c .before .stride .ensures) (omega arith)
@@ -27,4 +21,4 @@ returns c = ap₂ (λ (w m : ℕ). listPlace + w * m) (c .before .stride .ensure
 
 pub list-end-spec : {M : Type 1} → statement M
 list-end-spec =
-    tie.close (tie.spec stride-requires count-of-requires mul-result add-result returns)
+    tie.close (tie.spec (λ c κs. search needs) (λ c κs. search needs) mul-result add-result returns)

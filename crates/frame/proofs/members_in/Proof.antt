@@ -41,12 +41,6 @@ returns c = rw (c .if1 .taken) at (first (c .before .before))
 add-place : tie.Need-add-place Inv-loop μ-loop
 add-place c = omega (arith, room (c .before .before))
 
-sub-left : tie.Need-sub-left Inv-loop μ-loop
-sub-left c = omega arith
-
-loop-less : tie.Need-loop-less Inv-loop μ-loop
-loop-less c = omega arith
-
 loop-again : tie.Need-loop-again Inv-loop μ-loop
 loop-again c = (omega (arith, room (c .before .before)), rw (c .if1 .left) at (first (c .before .before)))
 
@@ -66,7 +60,7 @@ members-in-spec =
     shared-slice-read-x
     returns
     add-place
-    sub-left
-    loop-less
+    (λ c. omega arith)
+    (λ c. omega arith)
     loop-again
     returns-2)

@@ -5,22 +5,10 @@ use borrow.Author.Needs.{needs}
 use Rattle.frame.proofs.observe_signature.Statement.{statement}
 use Rattle.frame.proofs.observe_signature.Tie as tie
 
-add-end : tie.Need-add-end
-add-end c = search needs
-
-sub-result : tie.Need-sub-result
-sub-result c = search needs
-
-part-result-start : tie.Need-part-result-start
-part-result-start c = search needs
-
 part-result-end : tie.Need-part-result-end
 unfolding bodyLength
 part-result-end c = omega arith
 
-returns : tie.Need-returns
-returns c = search needs
-
 pub observe-signature-spec : {M : Type 1} → statement M
 observe-signature-spec =
-    tie.close (tie.spec add-end sub-result part-result-start part-result-end returns)
+    tie.close (tie.spec (λ c. search needs) (λ c. search needs) (λ c. search needs) part-result-end (λ c. search needs))

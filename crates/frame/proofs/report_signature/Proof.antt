@@ -9,18 +9,9 @@ use borrow.Author.Needs.{needs}
 use Rattle.frame.proofs.report_signature.Statement.{statement}
 use Rattle.frame.proofs.report_signature.Tie as tie
 
-list-end-requires : tie.Need-list-end-requires
-list-end-requires c κs = search needs
-
 add-end : tie.Need-add-end
 unfolding bodyLength
 add-end c = omega arith
-
-sub-result : tie.Need-sub-result
-sub-result c = search needs
-
-part-result-start : tie.Need-part-result-start
-part-result-start c = search needs
 
 part-result-end : tie.Need-part-result-end
 unfolding bodyLength
@@ -34,4 +25,4 @@ returns c =
 pub report-signature-spec : {M : Type 1} → statement M
 report-signature-spec =
     tie.close
-    (tie.spec list-end-requires add-end sub-result part-result-start part-result-end returns)
+    (tie.spec (λ c κs. search needs) add-end (λ c. search needs) (λ c. search needs) part-result-end returns)

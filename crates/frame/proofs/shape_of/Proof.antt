@@ -5,18 +5,9 @@ use Rattle.frame.specs.Table.{table, shapeOf}
 use Rattle.frame.proofs.shape_of.Statement.{statement}
 use Rattle.frame.proofs.shape_of.Tie as tie
 
-sub-row : tie.Need-sub-row
-sub-row c = search needs
-
-mul-result : tie.Need-mul-result
-mul-result c = search needs
-
-array-copy-out-result : tie.Need-array-copy-out-result
-array-copy-out-result c = search needs
-
 returns : tie.Need-returns
 unfolding table shapeOf
 returns c = refl
 
 pub shape-of-spec : {M : Type 1} → statement M
-shape-of-spec = tie.close (tie.spec sub-row mul-result array-copy-out-result returns)
+shape-of-spec = tie.close (tie.spec (λ c. search needs) (λ c. search needs) (λ c. search needs) returns)

@@ -13,9 +13,6 @@ use borrow.Author.Needs.{needs}
 use Rattle.frame.proofs.signature_at.Statement.{statement}
 use Rattle.frame.proofs.signature_at.Tie as tie
 
-stride-requires : tie.Need-stride-requires
-stride-requires c κs = search needs
-
 mul-start : tie.Need-mul-start
 unfolding shapeOf
 mul-start c = rw (c .stride .ensures) (omega arith)
@@ -24,9 +21,6 @@ add-start : tie.Need-add-start
 unfolding shapeOf
 add-start c = rw (c .stride .ensures) (omega arith)
 
-stride-requires-2 : tie.Need-stride-requires-2
-stride-requires-2 c κs = search needs
-
 add-start-2 : tie.Need-add-start-2
 unfolding shapeOf
 add-start-2 c = rw (c .before .stride .ensures) (omega arith)
@@ -34,12 +28,6 @@ add-start-2 c = rw (c .before .stride .ensures) (omega arith)
 add-end : tie.Need-add-end
 unfolding shapeOf
 add-end c = rw (c .before .stride .ensures) (omega arith)
-
-sub-result : tie.Need-sub-result
-sub-result c = search needs
-
-part-result-start : tie.Need-part-result-start
-part-result-start c = search needs
 
 part-result-end : tie.Need-part-result-end
 unfolding shapeOf
@@ -61,13 +49,13 @@ pub signature-at-spec : {M : Type 1} → statement M
 signature-at-spec =
     tie.close
     (tie.spec
-    stride-requires
+    (λ c κs. search needs)
     mul-start
     add-start
-    stride-requires-2
+    (λ c κs. search needs)
     add-start-2
     add-end
-    sub-result
-    part-result-start
+    (λ c. search needs)
+    (λ c. search needs)
     part-result-end
     returns)

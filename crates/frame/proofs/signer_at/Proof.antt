@@ -21,9 +21,6 @@ add-place : tie.Need-add-place
 unfolding bodyLength
 add-place c = omega arith
 
-signer-stride-requires : tie.Need-signer-stride-requires
-signer-stride-requires c κs = search needs
-
 mul-place : tie.Need-mul-place
 unfolding bodyLength
 mul-place c = rw (c .signer-stride .ensures) (omega arith)
@@ -53,7 +50,7 @@ signer-at-spec =
     (tie.spec
     list-end-requires
     add-place
-    signer-stride-requires
+    (λ c κs. search needs)
     mul-place
     add-place-2
     shared-slice-read-result

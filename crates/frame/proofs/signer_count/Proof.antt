@@ -8,12 +8,6 @@ use borrow.Author.Needs.{needs}
 use Rattle.frame.proofs.signer_count.Statement.{statement}
 use Rattle.frame.proofs.signer_count.Tie as tie
 
-list-end-requires : tie.Need-list-end-requires
-list-end-requires c κs = search needs
-
-shared-slice-read-result : tie.Need-shared-slice-read-result
-shared-slice-read-result c = search needs
-
 cast-result : tie.Need-cast-result
 cast-result c = omega (arith, c .shared-slice-known2 .given (c .before .list-end .result))
 
@@ -22,4 +16,4 @@ returns c = (ap (λ (k : ℕ). getD (now (c .before .before .before .args .body)
 
 pub signer-count-spec : {M : Type 1} → statement M
 signer-count-spec =
-    tie.close (tie.spec list-end-requires shared-slice-read-result cast-result returns)
+    tie.close (tie.spec (λ c κs. search needs) (λ c. search needs) cast-result returns)

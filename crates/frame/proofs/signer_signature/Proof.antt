@@ -21,9 +21,6 @@ add-start : tie.Need-add-start
 unfolding bodyLength
 add-start c = omega arith
 
-signer-stride-requires : tie.Need-signer-stride-requires
-signer-stride-requires c κs = search needs
-
 mul-start : tie.Need-mul-start
 unfolding bodyLength
 mul-start c = rw (c .signer-stride .ensures) (omega arith)
@@ -39,12 +36,6 @@ add-start-3 c = rw (c .signer-stride .ensures) (omega arith)
 add-end : tie.Need-add-end
 unfolding bodyLength
 add-end c = rw (c .signer-stride .ensures) (omega arith)
-
-sub-result : tie.Need-sub-result
-sub-result c = search needs
-
-part-result-start : tie.Need-part-result-start
-part-result-start c = search needs
 
 part-result-end : tie.Need-part-result-end
 unfolding bodyLength
@@ -68,12 +59,12 @@ signer-signature-spec =
     (tie.spec
     list-end-requires
     add-start
-    signer-stride-requires
+    (λ c κs. search needs)
     mul-start
     add-start-2
     add-start-3
     add-end
-    sub-result
-    part-result-start
+    (λ c. search needs)
+    (λ c. search needs)
     part-result-end
     returns)

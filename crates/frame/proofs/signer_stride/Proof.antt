@@ -5,11 +5,8 @@ use Rattle.frame.specs.declared.Shape.{Shape}
 use Rattle.frame.proofs.signer_stride.Statement.{statement}
 use Rattle.frame.proofs.signer_stride.Tie as tie
 
-shape-of-requires : tie.Need-shape-of-requires
-shape-of-requires c κs = search needs
-
 returns : tie.Need-returns
 returns c = ap (λ (row : Shape). row .signer) (c .shape-of .ensures)
 
 pub signer-stride-spec : {M : Type 1} → statement M
-signer-stride-spec = tie.close (tie.spec shape-of-requires returns)
+signer-stride-spec = tie.close (tie.spec (λ c κs. search needs) returns)

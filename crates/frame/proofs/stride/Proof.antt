@@ -5,11 +5,8 @@ use Rattle.frame.specs.declared.Shape.{Shape}
 use Rattle.frame.proofs.stride.Statement.{statement}
 use Rattle.frame.proofs.stride.Tie as tie
 
-shape-of-requires : tie.Need-shape-of-requires
-shape-of-requires c κs = search needs
-
 returns : tie.Need-returns
 returns c = ap (λ (row : Shape). row .entry) (c .shape-of .ensures)
 
 pub stride-spec : {M : Type 1} → statement M
-stride-spec = tie.close (tie.spec shape-of-requires returns)
+stride-spec = tie.close (tie.spec (λ c κs. search needs) returns)

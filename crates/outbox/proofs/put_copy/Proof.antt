@@ -5,14 +5,8 @@ use lib.Seq.{take-length}
 use Rattle.outbox.proofs.put_copy.Statement.{statement}
 use Rattle.outbox.proofs.put_copy.Tie as tie
 
-copy-requires : tie.Need-copy-requires
-copy-requires c κs = search needs
-
-same-length : tie.Need-same-length
-same-length c = search needs
-
 returns : tie.Need-returns
 returns c = (rw take-length at (c .before .before .copy .ensures), refl)
 
 pub put-copy-spec : {M : Type 1} → statement M
-put-copy-spec = tie.close (tie.spec copy-requires same-length returns)
+put-copy-spec = tie.close (tie.spec (λ c κs. search needs) (λ c. search needs) returns)

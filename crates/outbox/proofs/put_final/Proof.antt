@@ -20,9 +20,6 @@ put-head-requires : tie.Need-put-head-requires
 unfolding bodyLength shapeOf table
 put-head-requires c κs = search needs
 
-cast-out : tie.Need-cast-out
-cast-out c = search needs
-
 slice-write-out : tie.Need-slice-write-out
 unfolding bodyLength shapeOf table
 slice-write-out c = search needs
@@ -34,9 +31,6 @@ add-put-observations c = search needs
 put-observations-requires : tie.Need-put-observations-requires
 unfolding bodyLength shapeOf table
 put-observations-requires c κs = (simp length-set (omega (arith, c .before .before .before .put-head .kept .0)), c .before .before .before .before .before .before .before .before .before .pre .3, c .before .before .before .before .before .before .before .before .before .pre .4)
-
-cast-out-2 : tie.Need-cast-out-2
-cast-out-2 c = search needs
 
 slice-write-out-2 : tie.Need-slice-write-out-2
 unfolding bodyLength shapeOf table
@@ -78,11 +72,11 @@ put-final-spec =
     tie.close
     (tie.spec
     put-head-requires
-    cast-out
+    (λ c. search needs)
     slice-write-out
     add-put-observations
     put-observations-requires
-    cast-out-2
+    (λ c. search needs)
     slice-write-out-2
     add-put-signers
     put-signers-requires

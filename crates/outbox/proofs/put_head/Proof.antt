@@ -21,12 +21,6 @@ slice-write-out : tie.Need-slice-write-out
 unfolding bodyLength shapeOf table
 slice-write-out c = search needs
 
-body-length-requires : tie.Need-body-length-requires
-body-length-requires c κs = search needs
-
-same-length : tie.Need-same-length
-same-length c = search needs
-
 returns : tie.Need-returns
 unfolding headBytes
 returns c =
@@ -37,4 +31,4 @@ returns c =
 
 pub put-head-spec : {M : Type 1} → statement M
 put-head-spec =
-    tie.close (tie.spec put-u32-requires slice-write-out body-length-requires same-length returns)
+    tie.close (tie.spec put-u32-requires slice-write-out (λ c κs. search needs) (λ c. search needs) returns)

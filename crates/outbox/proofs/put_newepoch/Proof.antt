@@ -9,15 +9,9 @@ put-u32-requires : tie.Need-put-u32-requires
 unfolding bodyLength shapeOf table
 put-u32-requires c κs = search needs
 
-body-length-requires : tie.Need-body-length-requires
-body-length-requires c κs = search needs
-
-same-length : tie.Need-same-length
-same-length c = search needs
-
 returns : tie.Need-returns
 unfolding bodyBytes
 returns c = (c .before .before .before .put-u32 .ensures, c .body-length .ensures)
 
 pub put-newepoch-spec : {M : Type 1} → statement M
-put-newepoch-spec = tie.close (tie.spec put-u32-requires body-length-requires same-length returns)
+put-newepoch-spec = tie.close (tie.spec put-u32-requires (λ c κs. search needs) (λ c. search needs) returns)

@@ -17,21 +17,9 @@ use Rattle.outbox.proofs.Runs.{laid-behind}
 use Rattle.outbox.proofs.put_observation.Statement.{statement}
 use Rattle.outbox.proofs.put_observation.Tie as tie
 
-sub-place : tie.Need-sub-place
-sub-place c = search needs
-
 slice-write-out : tie.Need-slice-write-out
 unfolding bodyLength shapeOf table
 slice-write-out c = search needs
-
-add-put-i64 : tie.Need-add-put-i64
-add-put-i64 c = search needs
-
-mul-put-i64 : tie.Need-mul-put-i64
-mul-put-i64 c = search needs
-
-shared-slice-copy-out-put-i64 : tie.Need-shared-slice-copy-out-put-i64
-shared-slice-copy-out-put-i64 c = search needs
 
 put-i64-requires : tie.Need-put-i64-requires
 unfolding shapeOf table
@@ -53,11 +41,11 @@ pub put-observation-spec : {M : Type 1} → statement M
 put-observation-spec =
     tie.close
     (tie.spec
-    sub-place
+    (λ c. search needs)
     slice-write-out
-    add-put-i64
-    mul-put-i64
-    shared-slice-copy-out-put-i64
+    (λ c. search needs)
+    (λ c. search needs)
+    (λ c. search needs)
     put-i64-requires
     same-length
     returns)

@@ -18,14 +18,8 @@ Inv-loop out₀ at n order values stride p₀ i₀ out p i = Run observationByte
 abbrev μ-loop : tie.MeasureT-loop
 μ-loop out₀ at n order values stride p₀ i₀ out p i = length order - i
 
-stride-requires : tie.Need-stride-requires Inv-loop μ-loop
-stride-requires c κs = search needs
-
 loop-holds : tie.Need-loop-holds Inv-loop μ-loop
 loop-holds c = run-start (length-map (now (c .before .before .before .args .order)) (observed (now (c .before .before .before .args .values))))
-
-shared-slice-read-j : tie.Need-shared-slice-read-j Inv-loop μ-loop
-shared-slice-read-j c = search needs
 
 put-observation-requires : tie.Need-put-observation-requires Inv-loop μ-loop
 unfolding shapeOf table
@@ -38,12 +32,6 @@ add-p : tie.Need-add-p Inv-loop μ-loop
 unfolding shapeOf table
 add-p c = search needs
 
-add-i : tie.Need-add-i Inv-loop μ-loop
-add-i c = search needs
-
-loop-less : tie.Need-loop-less Inv-loop μ-loop
-loop-less c = search needs
-
 loop-again : tie.Need-loop-again Inv-loop μ-loop
 unfolding shapeOf table
 loop-again c =
@@ -51,9 +39,6 @@ loop-again c =
     let a = c .before .before .before .before .before .before .before .before .before .before .args in
     let xs = observations (now (a .order)) (now (a .values)) in
     run-next (l .inv) (observed-even _ xs) (c .before .before .before .before .before .loop-test .taken) (List·getD-map (observed (now (a .values))) (now (a .order)) (l .i) 0) (c .before .before .put-observation .ensures) (omega arith)
-
-same-length : tie.Need-same-length Inv-loop μ-loop
-same-length c = search needs
 
 returns : tie.Need-returns Inv-loop μ-loop
 returns c = run-end (c .before .loop .inv) (c .loop-test .left)
@@ -64,13 +49,13 @@ put-observations-spec =
     (tie.spec
     Inv-loop
     μ-loop
-    stride-requires
+    (λ c κs. search needs)
     loop-holds
-    shared-slice-read-j
+    (λ c. search needs)
     put-observation-requires
     add-p
-    add-i
-    loop-less
+    (λ c. search needs)
+    (λ c. search needs)
     loop-again
-    same-length
+    (λ c. search needs)
     returns)

@@ -32,12 +32,6 @@ zero-requires : tie.Need-zero-requires
 unfolding bodyLength shapeOf table
 zero-requires c κs = search needs
 
-body-length-requires : tie.Need-body-length-requires
-body-length-requires c κs = search needs
-
-same-length : tie.Need-same-length
-same-length c = search needs
-
 returns : tie.Need-returns
 unfolding bodyBytes headBytes beBytes bodyLength shapeOf table
 returns c =
@@ -60,6 +54,6 @@ put-observe-spec =
     put-i64-requires
     add-zero
     zero-requires
-    body-length-requires
-    same-length
+    (λ c κs. search needs)
+    (λ c. search needs)
     returns)

@@ -34,9 +34,6 @@ add-result : tie.Need-add-result
 unfolding bodyLength shapeOf table
 add-result c = search needs
 
-same-length : tie.Need-same-length
-same-length c = search needs
-
 returns : tie.Need-returns
 unfolding bodyBytes countedBytes headBytes beBytes bodyLength shapeOf table
 returns c =
@@ -62,4 +59,4 @@ returns c =
 pub put-report-spec : {M : Type 1} → statement M
 put-report-spec =
     tie.close
-    (tie.spec copy-requires put-said-requires zero-requires add-result same-length returns)
+    (tie.spec copy-requires put-said-requires zero-requires add-result (λ c. search needs) returns)

@@ -17,9 +17,6 @@ put-head-requires : tie.Need-put-head-requires
 unfolding bodyLength shapeOf table
 put-head-requires c κs = search needs
 
-cast-out : tie.Need-cast-out
-cast-out c = search needs
-
 slice-write-out : tie.Need-slice-write-out
 unfolding bodyLength shapeOf table
 slice-write-out c = search needs
@@ -53,7 +50,7 @@ put-report-req-spec =
     tie.close
     (tie.spec
     put-head-requires
-    cast-out
+    (λ c. search needs)
     slice-write-out
     add-put-signed
     put-signed-requires

@@ -28,14 +28,8 @@ count-of-requires : tie.Need-count-of-requires Inv-loop μ-loop
 unfolding bodyLength shapeOf table
 count-of-requires c κs = search needs
 
-stride-requires : tie.Need-stride-requires Inv-loop μ-loop
-stride-requires c κs = search needs
-
 loop-holds : tie.Need-loop-holds Inv-loop μ-loop
 loop-holds c = run-start (length-entries observationAt (shapeOf 4 .entry) (countIn (now (c .before .before .before .before .args .body))) (drop listPlace (now (c .before .before .before .before .args .body))))
-
-stride-requires-2 : tie.Need-stride-requires-2 Inv-loop μ-loop
-stride-requires-2 c κs = search needs
 
 mul-copy : tie.Need-mul-copy Inv-loop μ-loop
 unfolding bodyLength shapeOf table
@@ -53,12 +47,6 @@ add-p : tie.Need-add-p Inv-loop μ-loop
 unfolding shapeOf table
 add-p c = search needs
 
-add-i : tie.Need-add-i Inv-loop μ-loop
-add-i c = search needs
-
-loop-less : tie.Need-loop-less Inv-loop μ-loop
-loop-less c = search needs
-
 loop-again : tie.Need-loop-again Inv-loop μ-loop
 unfolding shapeOf table
 loop-again c =
@@ -70,9 +58,6 @@ loop-again c =
     let copied : c .before .before .copy .last .0 ≡ over (l .out) (l .p) (part b (listPlace + l .i * shapeOf 4 .entry) (shapeOf 5 .entry)) = rw (c .before .before .before .stride2 .ensures, c .before .before .before .before .before .before .before .stride .ensures) at (c .before .before .copy .ensures) in
     run-next (l .inv) (observed-even noObservation (observationsIn (shapeOf 4 .entry) b)) known refl (copied ∙ ap (over (l .out) (l .p)) (said-copied b (l .i) bytes (s .pre .1) known)) (omega arith)
 
-same-length : tie.Need-same-length Inv-loop μ-loop
-same-length c = search needs
-
 returns : tie.Need-returns Inv-loop μ-loop
 returns c = run-end (c .before .loop .inv) (omega arith)
 
@@ -83,15 +68,15 @@ put-said-spec =
     Inv-loop
     μ-loop
     count-of-requires
-    stride-requires
+    (λ c κs. search needs)
     loop-holds
-    stride-requires-2
+    (λ c κs. search needs)
     mul-copy
     add-copy
     copy-requires
     add-p
-    add-i
-    loop-less
+    (λ c. search needs)
+    (λ c. search needs)
     loop-again
-    same-length
+    (λ c. search needs)
     returns)

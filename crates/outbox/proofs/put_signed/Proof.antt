@@ -20,14 +20,8 @@ Inv-loop out₀ at n order values signatures stride p₀ i₀ out p i = Run sign
 abbrev μ-loop : tie.MeasureT-loop
 μ-loop out₀ at n order values signatures stride p₀ i₀ out p i = length order - i
 
-stride-requires : tie.Need-stride-requires Inv-loop μ-loop
-stride-requires c κs = search needs
-
 loop-holds : tie.Need-loop-holds Inv-loop μ-loop
 loop-holds c = run-start (length-map (now (c .before .before .before .before .args .order)) (signed (now (c .before .before .before .before .args .values)) (now (c .before .before .before .before .args .signatures))))
-
-shared-slice-read-j : tie.Need-shared-slice-read-j Inv-loop μ-loop
-shared-slice-read-j c = search needs
 
 put-observation-requires : tie.Need-put-observation-requires Inv-loop μ-loop
 unfolding shapeOf table
@@ -35,9 +29,6 @@ put-observation-requires c κs =
     let s = c .before .before .before .before .before .before .before .before in
     let j = member-at (s .args .n) (now (s .args .order)) (c .before .before .before .loop .i) (s .pre .1) (c .before .before .loop-test .taken) in
     (omega arith, j .0, omega arith)
-
-stride-requires-2 : tie.Need-stride-requires-2 Inv-loop μ-loop
-stride-requires-2 c κs = search needs
 
 add-put-signature : tie.Need-add-put-signature Inv-loop μ-loop
 unfolding shapeOf table
@@ -54,12 +45,6 @@ add-p : tie.Need-add-p Inv-loop μ-loop
 unfolding shapeOf table
 add-p c = search needs
 
-add-i : tie.Need-add-i Inv-loop μ-loop
-add-i c = search needs
-
-loop-less : tie.Need-loop-less Inv-loop μ-loop
-loop-less c = search needs
-
 loop-again : tie.Need-loop-again Inv-loop μ-loop
 unfolding signedBytes observationBytes beBytes shapeOf table
 loop-again c =
@@ -74,9 +59,6 @@ loop-again c =
     run-next (l .inv) (signed-even (a .n) order (now (a .signatures)) (s .pre .1) (s .pre .3) (now (a .values))) (c .before .before .before .before .before .before .before .before .before .before .loop-test .taken) (List·getD-map (signed (now (a .values)) (now (a .signatures))) order (l .i) 0)
     (laid-two (l .out) (o .last .0) (g .last .0) (l .p) (observationBytes (observed (now (a .values)) j)) (l .p + c .before .before .before .stride2 .result) (signatureOf (now (a .signatures)) j) (o .ensures) (g .ensures) place) (omega arith)
 
-same-length : tie.Need-same-length Inv-loop μ-loop
-same-length c = search needs
-
 returns : tie.Need-returns Inv-loop μ-loop
 returns c = run-end (c .before .loop .inv) (c .loop-test .left)
 
@@ -86,16 +68,16 @@ put-signed-spec =
     (tie.spec
     Inv-loop
     μ-loop
-    stride-requires
+    (λ c κs. search needs)
     loop-holds
-    shared-slice-read-j
+    (λ c. search needs)
     put-observation-requires
-    stride-requires-2
+    (λ c κs. search needs)
     add-put-signature
     put-signature-requires
     add-p
-    add-i
-    loop-less
+    (λ c. search needs)
+    (λ c. search needs)
     loop-again
-    same-length
+    (λ c. search needs)
     returns)

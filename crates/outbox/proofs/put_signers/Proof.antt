@@ -18,14 +18,8 @@ Inv-loop out₀ at n signers signatures stride p₀ i₀ out p i = Run signerByt
 abbrev μ-loop : tie.MeasureT-loop
 μ-loop out₀ at n signers signatures stride p₀ i₀ out p i = length signers - i
 
-signer-stride-requires : tie.Need-signer-stride-requires Inv-loop μ-loop
-signer-stride-requires c κs = search needs
-
 loop-holds : tie.Need-loop-holds Inv-loop μ-loop
 loop-holds c = run-start (length-map (now (c .before .before .before .before .args .signers)) (signer (now (c .before .before .before .before .args .signatures))))
-
-shared-slice-read-j : tie.Need-shared-slice-read-j Inv-loop μ-loop
-shared-slice-read-j c = search needs
 
 slice-write-out : tie.Need-slice-write-out Inv-loop μ-loop
 unfolding shapeOf table
@@ -46,12 +40,6 @@ add-p : tie.Need-add-p Inv-loop μ-loop
 unfolding shapeOf table
 add-p c = search needs
 
-add-i : tie.Need-add-i Inv-loop μ-loop
-add-i c = search needs
-
-loop-less : tie.Need-loop-less Inv-loop μ-loop
-loop-less c = search needs
-
 loop-again : tie.Need-loop-again Inv-loop μ-loop
 unfolding signerBytes shapeOf table
 loop-again c =
@@ -64,9 +52,6 @@ loop-again c =
     run-next (l .inv) (signers-even (a .n) order (now (a .signatures)) (s .pre .1) (s .pre .2)) (c .before .before .before .before .before .loop-test .taken) (List·getD-map (signer (now (a .signatures))) order (l .i) 0)
     (laid-behind (l .out) (g .last .0) (l .p) j (signatureOf (now (a .signatures)) j) (g .ensures)) (omega arith)
 
-same-length : tie.Need-same-length Inv-loop μ-loop
-same-length c = search needs
-
 returns : tie.Need-returns Inv-loop μ-loop
 returns c = run-end (c .before .loop .inv) (c .loop-test .left)
 
@@ -76,15 +61,15 @@ put-signers-spec =
     (tie.spec
     Inv-loop
     μ-loop
-    signer-stride-requires
+    (λ c κs. search needs)
     loop-holds
-    shared-slice-read-j
+    (λ c. search needs)
     slice-write-out
     add-put-signature
     put-signature-requires
     add-p
-    add-i
-    loop-less
+    (λ c. search needs)
+    (λ c. search needs)
     loop-again
-    same-length
+    (λ c. search needs)
     returns)

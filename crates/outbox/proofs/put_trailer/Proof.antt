@@ -17,41 +17,17 @@ use Rattle.outbox.proofs.put_trailer.Tie as tie
 long : (c : tie.After-put-u16) → length (c .put-u16 .last .0) ≡ length (now (c .before .before .before .before .args .out))
 long c = c .put-u16 .kept .0 ∙ simp length-set
 
-slice-write-out : tie.Need-slice-write-out
-slice-write-out c = search needs
-
-add-out : tie.Need-add-out
-add-out c = search needs
-
 slice-write-out-2 : tie.Need-slice-write-out-2
 slice-write-out-2 c = simp length-set (omega arith)
-
-add-put-u16 : tie.Need-add-put-u16
-add-put-u16 c = search needs
-
-version-requires : tie.Need-version-requires
-version-requires c κs = search needs
 
 put-u16-requires : tie.Need-put-u16-requires
 put-u16-requires c κs = simp length-set (omega arith)
 
-add-put-u32 : tie.Need-add-put-u32
-add-put-u32 c = search needs
-
-cast-put-u32 : tie.Need-cast-put-u32
-cast-put-u32 c = search needs
-
 put-u32-requires : tie.Need-put-u32-requires
 put-u32-requires c κs = omega (arith, long (c .before .before .before))
 
-add-put-u64 : tie.Need-add-put-u64
-add-put-u64 c = search needs
-
 put-u64-requires : tie.Need-put-u64-requires
 put-u64-requires c κs = omega (arith, c .before .before .before .put-u32 .kept .0, long (c .before .before .before .before .before .before .before))
-
-add-result : tie.Need-add-result
-add-result c = search needs
 
 same-length : tie.Need-same-length
 same-length c = c .before .before .put-u64 .kept .0 ∙ c .before .before .before .before .before .before .put-u32 .kept .0 ∙ long (c .before .before .before .before .before .before .before .before .before .before)
@@ -79,17 +55,17 @@ pub put-trailer-spec : {M : Type 1} → statement M
 put-trailer-spec =
     tie.close
     (tie.spec
-    slice-write-out
-    add-out
+    (λ c. search needs)
+    (λ c. search needs)
     slice-write-out-2
-    add-put-u16
-    version-requires
+    (λ c. search needs)
+    (λ c κs. search needs)
     put-u16-requires
-    add-put-u32
-    cast-put-u32
+    (λ c. search needs)
+    (λ c. search needs)
     put-u32-requires
-    add-put-u64
+    (λ c. search needs)
     put-u64-requires
-    add-result
+    (λ c. search needs)
     same-length
     returns)

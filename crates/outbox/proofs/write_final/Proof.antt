@@ -13,33 +13,9 @@ use Rattle.outbox.proofs.Frames.{wrote, length-observed, signed, signer
 use Rattle.outbox.proofs.write_final.Statement.{statement}
 use Rattle.outbox.proofs.write_final.Tie as tie
 
-sub-put-final : tie.Need-sub-put-final
-sub-put-final c = search needs
-
-part-put-final-start : tie.Need-part-put-final-start
-part-put-final-start c = search needs
-
-part-put-final-end : tie.Need-part-put-final-end
-part-put-final-end c = search needs
-
-put-final-requires : tie.Need-put-final-requires
-put-final-requires c κs = search needs
-
-sub-put-trailer : tie.Need-sub-put-trailer
-sub-put-trailer c = search needs
-
-part-put-trailer-start : tie.Need-part-put-trailer-start
-part-put-trailer-start c = search needs
-
-part-put-trailer-end : tie.Need-part-put-trailer-end
-part-put-trailer-end c = search needs
-
 put-trailer-requires : tie.Need-put-trailer-requires
 unfolding bodyLength shapeOf table
 put-trailer-requires c κs = search needs
-
-same-length : tie.Need-same-length
-same-length c = search needs
 
 returns : tie.Need-returns
 unfolding bodyBytes attestedBytes headBytes beBytes countedBytes bodyLength shapeOf table
@@ -65,13 +41,13 @@ pub write-final-spec : {M : Type 1} → statement M
 write-final-spec =
     tie.close
     (tie.spec
-    sub-put-final
-    part-put-final-start
-    part-put-final-end
-    put-final-requires
-    sub-put-trailer
-    part-put-trailer-start
-    part-put-trailer-end
+    (λ c. search needs)
+    (λ c. search needs)
+    (λ c. search needs)
+    (λ c κs. search needs)
+    (λ c. search needs)
+    (λ c. search needs)
+    (λ c. search needs)
     put-trailer-requires
-    same-length
+    (λ c. search needs)
     returns)

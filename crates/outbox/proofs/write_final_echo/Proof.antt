@@ -15,34 +15,13 @@ use Rattle.outbox.proofs.Frames.{rest, wrote}
 use Rattle.outbox.proofs.write_final_echo.Statement.{statement}
 use Rattle.outbox.proofs.write_final_echo.Tie as tie
 
-sub-put-copy : tie.Need-sub-put-copy
-sub-put-copy c = search needs
-
-part-put-copy-start : tie.Need-part-put-copy-start
-part-put-copy-start c = search needs
-
-part-put-copy-end : tie.Need-part-put-copy-end
-part-put-copy-end c = search needs
-
 put-copy-requires : tie.Need-put-copy-requires
 unfolding bodyLength shapeOf table
 put-copy-requires c κs = search needs
 
-sub-put-trailer : tie.Need-sub-put-trailer
-sub-put-trailer c = search needs
-
-part-put-trailer-start : tie.Need-part-put-trailer-start
-part-put-trailer-start c = search needs
-
-part-put-trailer-end : tie.Need-part-put-trailer-end
-part-put-trailer-end c = search needs
-
 put-trailer-requires : tie.Need-put-trailer-requires
 unfolding bodyLength shapeOf table
 put-trailer-requires c κs = (search needs, omega (arith, c .before .before .before .before .before .shared-slice-known .given 5, c .before .before .before .before .before .shared-slice-known .given (listEnd (now (c .before .before .before .before .before .before .before .args .body)))))
-
-same-length : tie.Need-same-length
-same-length c = search needs
 
 returns : tie.Need-returns
 unfolding bodyBytes bodyLength shapeOf table
@@ -59,13 +38,13 @@ pub write-final-echo-spec : {M : Type 1} → statement M
 write-final-echo-spec =
     tie.close
     (tie.spec
-    sub-put-copy
-    part-put-copy-start
-    part-put-copy-end
+    (λ c. search needs)
+    (λ c. search needs)
+    (λ c. search needs)
     put-copy-requires
-    sub-put-trailer
-    part-put-trailer-start
-    part-put-trailer-end
+    (λ c. search needs)
+    (λ c. search needs)
+    (λ c. search needs)
     put-trailer-requires
-    same-length
+    (λ c. search needs)
     returns)

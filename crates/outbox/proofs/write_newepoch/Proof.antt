@@ -8,33 +8,9 @@ use Rattle.outbox.proofs.Frames.{wrote}
 use Rattle.outbox.proofs.write_newepoch.Statement.{statement}
 use Rattle.outbox.proofs.write_newepoch.Tie as tie
 
-sub-put-newepoch : tie.Need-sub-put-newepoch
-sub-put-newepoch c = search needs
-
-part-put-newepoch-start : tie.Need-part-put-newepoch-start
-part-put-newepoch-start c = search needs
-
-part-put-newepoch-end : tie.Need-part-put-newepoch-end
-part-put-newepoch-end c = search needs
-
-put-newepoch-requires : tie.Need-put-newepoch-requires
-put-newepoch-requires c κs = search needs
-
-sub-put-trailer : tie.Need-sub-put-trailer
-sub-put-trailer c = search needs
-
-part-put-trailer-start : tie.Need-part-put-trailer-start
-part-put-trailer-start c = search needs
-
-part-put-trailer-end : tie.Need-part-put-trailer-end
-part-put-trailer-end c = search needs
-
 put-trailer-requires : tie.Need-put-trailer-requires
 unfolding bodyLength shapeOf table
 put-trailer-requires c κs = search needs
-
-same-length : tie.Need-same-length
-same-length c = search needs
 
 returns : tie.Need-returns
 unfolding bodyBytes beBytes bodyLength shapeOf table
@@ -47,13 +23,13 @@ pub write-newepoch-spec : {M : Type 1} → statement M
 write-newepoch-spec =
     tie.close
     (tie.spec
-    sub-put-newepoch
-    part-put-newepoch-start
-    part-put-newepoch-end
-    put-newepoch-requires
-    sub-put-trailer
-    part-put-trailer-start
-    part-put-trailer-end
+    (λ c. search needs)
+    (λ c. search needs)
+    (λ c. search needs)
+    (λ c κs. search needs)
+    (λ c. search needs)
+    (λ c. search needs)
+    (λ c. search needs)
     put-trailer-requires
-    same-length
+    (λ c. search needs)
     returns)

@@ -16,33 +16,9 @@ use Rattle.outbox.proofs.Frames.{rest, wrote}
 use Rattle.outbox.proofs.write_observe.Statement.{statement}
 use Rattle.outbox.proofs.write_observe.Tie as tie
 
-sub-put-observe : tie.Need-sub-put-observe
-sub-put-observe c = search needs
-
-part-put-observe-start : tie.Need-part-put-observe-start
-part-put-observe-start c = search needs
-
-part-put-observe-end : tie.Need-part-put-observe-end
-part-put-observe-end c = search needs
-
-put-observe-requires : tie.Need-put-observe-requires
-put-observe-requires c κs = search needs
-
-sub-put-trailer : tie.Need-sub-put-trailer
-sub-put-trailer c = search needs
-
-part-put-trailer-start : tie.Need-part-put-trailer-start
-part-put-trailer-start c = search needs
-
-part-put-trailer-end : tie.Need-part-put-trailer-end
-part-put-trailer-end c = search needs
-
 put-trailer-requires : tie.Need-put-trailer-requires
 unfolding bodyLength shapeOf table
 put-trailer-requires c κs = search needs
-
-same-length : tie.Need-same-length
-same-length c = search needs
 
 returns : tie.Need-returns
 unfolding bodyBytes headBytes beBytes bodyLength shapeOf table
@@ -56,13 +32,13 @@ pub write-observe-spec : {M : Type 1} → statement M
 write-observe-spec =
     tie.close
     (tie.spec
-    sub-put-observe
-    part-put-observe-start
-    part-put-observe-end
-    put-observe-requires
-    sub-put-trailer
-    part-put-trailer-start
-    part-put-trailer-end
+    (λ c. search needs)
+    (λ c. search needs)
+    (λ c. search needs)
+    (λ c κs. search needs)
+    (λ c. search needs)
+    (λ c. search needs)
+    (λ c. search needs)
     put-trailer-requires
-    same-length
+    (λ c. search needs)
     returns)

@@ -13,33 +13,9 @@ use Rattle.outbox.proofs.Frames.{wrote, length-observed}
 use Rattle.outbox.proofs.write_report.Statement.{statement}
 use Rattle.outbox.proofs.write_report.Tie as tie
 
-sub-put-report : tie.Need-sub-put-report
-sub-put-report c = search needs
-
-part-put-report-start : tie.Need-part-put-report-start
-part-put-report-start c = search needs
-
-part-put-report-end : tie.Need-part-put-report-end
-part-put-report-end c = search needs
-
-put-report-requires : tie.Need-put-report-requires
-put-report-requires c κs = search needs
-
-sub-put-trailer : tie.Need-sub-put-trailer
-sub-put-trailer c = search needs
-
-part-put-trailer-start : tie.Need-part-put-trailer-start
-part-put-trailer-start c = search needs
-
-part-put-trailer-end : tie.Need-part-put-trailer-end
-part-put-trailer-end c = search needs
-
 put-trailer-requires : tie.Need-put-trailer-requires
 unfolding bodyLength shapeOf table
 put-trailer-requires c κs = (search needs, omega (arith, c .before .before .before .before .before .shared-slice-known .given 5))
-
-same-length : tie.Need-same-length
-same-length c = search needs
 
 returns : tie.Need-returns
 unfolding bodyBytes headBytes beBytes countedBytes bodyLength shapeOf table
@@ -57,13 +33,13 @@ pub write-report-spec : {M : Type 1} → statement M
 write-report-spec =
     tie.close
     (tie.spec
-    sub-put-report
-    part-put-report-start
-    part-put-report-end
-    put-report-requires
-    sub-put-trailer
-    part-put-trailer-start
-    part-put-trailer-end
+    (λ c. search needs)
+    (λ c. search needs)
+    (λ c. search needs)
+    (λ c κs. search needs)
+    (λ c. search needs)
+    (λ c. search needs)
+    (λ c. search needs)
     put-trailer-requires
-    same-length
+    (λ c. search needs)
     returns)

@@ -12,33 +12,9 @@ use Rattle.outbox.proofs.Frames.{wrote, signed, signed-even}
 use Rattle.outbox.proofs.write_report_req.Statement.{statement}
 use Rattle.outbox.proofs.write_report_req.Tie as tie
 
-sub-put-report-req : tie.Need-sub-put-report-req
-sub-put-report-req c = search needs
-
-part-put-report-req-start : tie.Need-part-put-report-req-start
-part-put-report-req-start c = search needs
-
-part-put-report-req-end : tie.Need-part-put-report-req-end
-part-put-report-req-end c = search needs
-
-put-report-req-requires : tie.Need-put-report-req-requires
-put-report-req-requires c κs = search needs
-
-sub-put-trailer : tie.Need-sub-put-trailer
-sub-put-trailer c = search needs
-
-part-put-trailer-start : tie.Need-part-put-trailer-start
-part-put-trailer-start c = search needs
-
-part-put-trailer-end : tie.Need-part-put-trailer-end
-part-put-trailer-end c = search needs
-
 put-trailer-requires : tie.Need-put-trailer-requires
 unfolding bodyLength shapeOf table
 put-trailer-requires c κs = search needs
-
-same-length : tie.Need-same-length
-same-length c = search needs
 
 returns : tie.Need-returns
 unfolding bodyBytes headBytes beBytes countedBytes bodyLength shapeOf table
@@ -59,13 +35,13 @@ pub write-report-req-spec : {M : Type 1} → statement M
 write-report-req-spec =
     tie.close
     (tie.spec
-    sub-put-report-req
-    part-put-report-req-start
-    part-put-report-req-end
-    put-report-req-requires
-    sub-put-trailer
-    part-put-trailer-start
-    part-put-trailer-end
+    (λ c. search needs)
+    (λ c. search needs)
+    (λ c. search needs)
+    (λ c κs. search needs)
+    (λ c. search needs)
+    (λ c. search needs)
+    (λ c. search needs)
     put-trailer-requires
-    same-length
+    (λ c. search needs)
     returns)

@@ -3,11 +3,8 @@ use borrow.Author.Needs.{needs}
 use Rattle.pacemaker.proofs.in_epoch.Statement.{statement}
 use Rattle.pacemaker.proofs.in_epoch.Tie as tie
 
-larger-requires : tie.Need-larger-requires
-larger-requires c κs = search needs
-
 returns : tie.Need-returns
 returns c = rw (c .before .larger .ensures)
 
 pub in-epoch-spec : {M : Type 1} → statement M
-in-epoch-spec = tie.close (tie.spec larger-requires returns)
+in-epoch-spec = tie.close (tie.spec (λ c κs. search needs) returns)

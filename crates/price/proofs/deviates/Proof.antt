@@ -9,21 +9,6 @@ use Rattle.price.proofs.Magnitudes.{back}
 use Rattle.price.proofs.deviates.Statement.{statement}
 use Rattle.price.proofs.deviates.Tie as tie
 
-distance-requires : tie.Need-distance-requires
-distance-requires c κs = search needs
-
-product-requires : tie.Need-product-requires
-product-requires c κs = search needs
-
-magnitude-requires : tie.Need-magnitude-requires
-magnitude-requires c κs = search needs
-
-product-requires-2 : tie.Need-product-requires-2
-product-requires-2 c κs = search needs
-
-above-requires : tie.Need-above-requires
-above-requires c κs = search needs
-
 returns : tie.Need-returns
 unfolding deviates
 returns c =
@@ -39,9 +24,9 @@ pub deviates-spec : {M : Type 1} → statement M
 deviates-spec =
     tie.close
     (tie.spec
-    distance-requires
-    product-requires
-    magnitude-requires
-    product-requires-2
-    above-requires
+    (λ c κs. search needs)
+    (λ c κs. search needs)
+    (λ c κs. search needs)
+    (λ c κs. search needs)
+    (λ c κs. search needs)
     returns)

@@ -10,21 +10,6 @@ use Rattle.price.proofs.Magnitudes.{back, together, same-side, other-si
 use Rattle.price.proofs.distance.Statement.{statement}
 use Rattle.price.proofs.distance.Tie as tie
 
-magnitude-requires : tie.Need-magnitude-requires
-magnitude-requires c κs = search needs
-
-magnitude-requires-2 : tie.Need-magnitude-requires-2
-magnitude-requires-2 c κs = search needs
-
-negative-requires : tie.Need-negative-requires
-negative-requires c κs = search needs
-
-negative-requires-2 : tie.Need-negative-requires-2
-negative-requires-2 c κs = search needs
-
-gap-requires : tie.Need-gap-requires
-gap-requires c κs = search needs
-
 abbrev start : tie.After-negative2 → tie.Start
 start c = c .before .before .before .before
 
@@ -60,11 +45,11 @@ pub distance-spec : {M : Type 1} → statement M
 distance-spec =
     tie.close
     (tie.spec
-    magnitude-requires
-    magnitude-requires-2
-    negative-requires
-    negative-requires-2
-    gap-requires
+    (λ c κs. search needs)
+    (λ c κs. search needs)
+    (λ c κs. search needs)
+    (λ c κs. search needs)
+    (λ c κs. search needs)
     returns
     add-result
     returns-2)

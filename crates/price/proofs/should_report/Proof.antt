@@ -7,15 +7,6 @@ use Rattle.price.proofs.Magnitudes.{back}
 use Rattle.price.proofs.should_report.Statement.{statement}
 use Rattle.price.proofs.should_report.Tie as tie
 
-none-requires : tie.Need-none-requires
-none-requires c κs = search needs
-
-deviates-requires : tie.Need-deviates-requires
-deviates-requires c κs = search needs
-
-passed-requires : tie.Need-passed-requires
-passed-requires c κs = search needs
-
 returns : tie.Need-returns
 unfolding shouldReport
 returns c = sym (rw (sym (c .before .none .ensures) ∙ c .if1 .taken))
@@ -42,4 +33,4 @@ returns-3 c =
 pub should-report-spec : {M : Type 1} → statement M
 should-report-spec =
     tie.close
-    (tie.spec none-requires returns deviates-requires returns-2 passed-requires returns-3)
+    (tie.spec (λ c κs. search needs) returns (λ c κs. search needs) returns-2 (λ c κs. search needs) returns-3)

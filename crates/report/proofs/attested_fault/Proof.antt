@@ -10,17 +10,8 @@ use borrow.Author.Needs.{needs}
 use Rattle.report.proofs.attested_fault.Statement.{statement}
 use Rattle.report.proofs.attested_fault.Tie as tie
 
-stride-requires : tie.Need-stride-requires
-stride-requires c κs = search needs
-
 list-fault-requires : tie.Need-list-fault-requires
 list-fault-requires c κs = rw (c .stride .ensures) (report-list (c .before .before .pre))
-
-signers-fault-requires : tie.Need-signers-fault-requires
-signers-fault-requires c κs = search needs
-
-or-requires : tie.Need-or-requires
-or-requires c κs = search needs
 
 returns : tie.Need-returns
 unfolding attestedFault
@@ -32,4 +23,4 @@ returns c =
 pub attested-fault-spec : {M : Type 1} → statement M
 attested-fault-spec =
     tie.close
-    (tie.spec stride-requires list-fault-requires signers-fault-requires or-requires returns)
+    (tie.spec (λ c κs. search needs) list-fault-requires (λ c κs. search needs) (λ c κs. search needs) returns)

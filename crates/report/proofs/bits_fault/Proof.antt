@@ -6,9 +6,6 @@ use borrow.Author.Needs.{needs}
 use Rattle.report.proofs.bits_fault.Statement.{statement}
 use Rattle.report.proofs.bits_fault.Tie as tie
 
-first-clear-requires : tie.Need-first-clear-requires
-first-clear-requires c κs = search needs
-
 returns : tie.Need-returns
 unfolding bitsFault
 returns c = fault-at ClearBit _ _ _ (c .before .first-clear .ensures) (c .if1 .taken)
@@ -18,4 +15,4 @@ unfolding bitsFault
 returns-2 c = fault-none ClearBit _ _ _ (c .before .first-clear .ensures) (c .if1 .left)
 
 pub bits-fault-spec : {M : Type 1} → statement M
-bits-fault-spec = tie.close (tie.spec first-clear-requires returns returns-2)
+bits-fault-spec = tie.close (tie.spec (λ c κs. search needs) returns returns-2)

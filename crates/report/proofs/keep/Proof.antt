@@ -18,22 +18,10 @@ use Rattle.report.proofs.keep.Tie as tie
 kept : (buffer body copied zeroed : List ℕ) → copied ≡ over buffer 0 (part body 0 (length body)) → zeroed ≡ over copied (length body) (replicate (keptSize - length body) 0) → zeroed ≡ keeping buffer body
 kept buffer body copied zeroed e g = g ∙ rw (e, take-length) (over-then buffer 0 body (length body) (replicate (keptSize - length body) 0) (omega arith))
 
-copy-requires : tie.Need-copy-requires
-copy-requires c κs = search needs
-
-sub-zero : tie.Need-sub-zero
-sub-zero c = search needs
-
-zero-requires : tie.Need-zero-requires
-zero-requires c κs = search needs
-
-same-length : tie.Need-same-length
-same-length c = search needs
-
 returns : tie.Need-returns
 returns c =
     let a = c .before .before .before .before .before .before .before .before .before .before .args in
     kept (now (a .buffer)) (now (a .body)) _ _ (c .before .before .before .before .before .before .copy .ensures) (c .before .before .zero .ensures)
 
 pub keep-spec : {M : Type 1} → statement M
-keep-spec = tie.close (tie.spec copy-requires sub-zero zero-requires same-length returns)
+keep-spec = tie.close (tie.spec (λ c κs. search needs) (λ c. search needs) (λ c κs. search needs) (λ c. search needs) returns)

@@ -38,18 +38,9 @@ apart c =
     let found = c .first-repeat .ensures ∙ ap (λ (m : ℕ). firstRepeat (column w m (drop listPlace b))) (c .before .before .before .before .count-of .ensures .0) in
     distinct-members (λ (o : Observation). o .member) observationAt (λ e. refl) w (list-stride (s .pre)) (countIn b) (drop listPlace b) found
 
-count-of-requires : tie.Need-count-of-requires
-count-of-requires c κs = search needs
-
-mul-if1 : tie.Need-mul-if1
-mul-if1 c = search needs
-
 returns : tie.Need-returns
 unfolding listFault
 returns c = rw (length-entries, le-leb _ _ (rw (c .before .count-of .ensures .0) at (c .if1 .taken)))
-
-not-falling-requires : tie.Need-not-falling-requires
-not-falling-requires c κs = search needs
 
 returns-2 : tie.Need-returns-2
 unfolding listFault
@@ -76,10 +67,10 @@ pub list-fault-spec : {M : Type 1} → statement M
 list-fault-spec =
     tie.close
     (tie.spec
-    count-of-requires
-    mul-if1
+    (λ c κs. search needs)
+    (λ c. search needs)
     returns
-    not-falling-requires
+    (λ c κs. search needs)
     returns-2
     first-repeat-requires
     returns-3

@@ -14,15 +14,6 @@ use borrow.Author.Needs.{needs}
 use Rattle.report.proofs.median.Statement.{statement}
 use Rattle.report.proofs.median.Tie as tie
 
-count-of-requires : tie.Need-count-of-requires
-count-of-requires c κs = search needs
-
-median-place-requires : tie.Need-median-place-requires
-median-place-requires c κs = search needs
-
-value-at-requires : tie.Need-value-at-requires
-value-at-requires c κs = search needs
-
 returns : tie.Need-returns
 returns c =
     let a = c .before .before .before .before .args in
@@ -36,4 +27,4 @@ returns c =
 
 pub median-spec : {M : Type 1} → statement M
 median-spec =
-    tie.close (tie.spec count-of-requires median-place-requires value-at-requires returns)
+    tie.close (tie.spec (λ c κs. search needs) (λ c κs. search needs) (λ c κs. search needs) returns)

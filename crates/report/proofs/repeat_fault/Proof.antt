@@ -42,9 +42,6 @@ list-end-requires c κs = report-head (c .before .before .pre)
 add-first-repeat : tie.Need-add-first-repeat
 add-first-repeat c = omega (arith, report-list-end (c .before .before .before .pre))
 
-signer-stride-requires : tie.Need-signer-stride-requires
-signer-stride-requires c κs = search needs
-
 first-repeat-requires : tie.Need-first-repeat-requires
 first-repeat-requires c κs =
     rw (c .signer-stride .ensures, c .before .list-end .ensures, c .before .before .signer-count .ensures .0)
@@ -65,7 +62,7 @@ repeat-fault-spec =
     signer-count-requires
     list-end-requires
     add-first-repeat
-    signer-stride-requires
+    (λ c κs. search needs)
     first-repeat-requires
     returns
     returns-2)

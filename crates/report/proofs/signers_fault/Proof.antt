@@ -17,15 +17,6 @@ unfolding signersFault
 returns c =
     rw (length-entries, le-leb _ _ (rw (c .before .signer-count .ensures .0) at (c .if1 .taken)))
 
-repeat-fault-requires : tie.Need-repeat-fault-requires
-repeat-fault-requires c κs = search needs
-
-bits-fault-requires : tie.Need-bits-fault-requires
-bits-fault-requires c κs = search needs
-
-or-requires : tie.Need-or-requires
-or-requires c κs = search needs
-
 returns-2 : tie.Need-returns-2
 unfolding signersFault
 returns-2 c =
@@ -41,7 +32,7 @@ signers-fault-spec =
     (tie.spec
     signer-count-requires
     returns
-    repeat-fault-requires
-    bits-fault-requires
-    or-requires
+    (λ c κs. search needs)
+    (λ c κs. search needs)
+    (λ c κs. search needs)
     returns-2)

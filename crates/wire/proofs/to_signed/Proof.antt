@@ -10,18 +10,6 @@ use Rattle.wire.proofs.Signed.{signed-upper}
 use Rattle.wire.proofs.to_signed.Statement.{statement}
 use Rattle.wire.proofs.to_signed.Tie as tie
 
-cast-result : tie.Need-cast-result
-cast-result c = search needs
-
-returns : tie.Need-returns
-returns c = search needs
-
-sub-n : tie.Need-sub-n
-sub-n c = search needs
-
-cast-result-2 : tie.Need-cast-result-2
-cast-result-2 c = search needs
-
 upper : (c : tie.Else1) → negsuc 0 -ℤ toZ w64 (18446744073709551615 - c .before .args .u) ≡ toZ w64 (c .before .args .u)
 upper c = signed-upper (c .before .args .u) (c .if1 .left) (c .before .fits .u .fits)
 
@@ -32,4 +20,4 @@ returns-2 : tie.Need-returns-2
 returns-2 c = toZ-ofZ w64 _ (sub-result c) ∙ upper c
 
 pub to-signed-spec : {M : Type 1} → statement M
-to-signed-spec = tie.close (tie.spec cast-result returns sub-n cast-result-2 sub-result returns-2)
+to-signed-spec = tie.close (tie.spec (λ c. search needs) (λ c. search needs) (λ c. search needs) (λ c. search needs) sub-result returns-2)

@@ -3,11 +3,8 @@ use borrow.Author.Needs.{needs}
 use Rattle.config.proofs.Answer.is_done.Statement.{statement}
 use Rattle.config.proofs.Answer.is_done.Tie as tie
 
-number-requires : tie.Need-number-requires
-number-requires c κs = search needs
-
 returns : tie.Need-returns
 returns c = rw (c .number .ensures)
 
 pub is-done-spec : {M : Type 1} → statement M
-is-done-spec = tie.close (tie.spec number-requires returns)
+is-done-spec = tie.close (tie.spec (λ c κs. search needs) returns)

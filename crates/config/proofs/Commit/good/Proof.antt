@@ -3,14 +3,8 @@ use borrow.Author.Needs.{needs}
 use Rattle.config.proofs.Commit.good.Statement.{statement}
 use Rattle.config.proofs.Commit.good.Tie as tie
 
-paired-requires : tie.Need-paired-requires
-paired-requires c κs = search needs
-
-good-time-requires : tie.Need-good-time-requires
-good-time-requires c κs = search needs
-
 returns : tie.Need-returns
 returns c = rw (c .before .paired .ensures, c .good-time .ensures)
 
 pub good-spec : {M : Type 1} → statement M
-good-spec = tie.close (tie.spec paired-requires good-time-requires returns)
+good-spec = tie.close (tie.spec (λ c κs. search needs) (λ c κs. search needs) returns)

@@ -4,15 +4,9 @@ use Rattle.config.specs.Bounds.{goodConfig}
 use Rattle.config.proofs.Config.good.Statement.{statement}
 use Rattle.config.proofs.Config.good.Tie as tie
 
-good-feed-requires : tie.Need-good-feed-requires
-good-feed-requires c κs = search needs
-
-good-own-requires : tie.Need-good-own-requires
-good-own-requires c κs = search needs
-
 returns : tie.Need-returns
 unfolding goodConfig
 returns c = rw (c .before .good-feed .ensures, c .good-own .ensures)
 
 pub good-spec : {M : Type 1} → statement M
-good-spec = tie.close (tie.spec good-feed-requires good-own-requires returns)
+good-spec = tie.close (tie.spec (λ c κs. search needs) (λ c κs. search needs) returns)

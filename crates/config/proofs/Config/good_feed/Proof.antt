@@ -4,18 +4,9 @@ use Rattle.config.specs.Bounds.{goodFeed}
 use Rattle.config.proofs.Config.good_feed.Statement.{statement}
 use Rattle.config.proofs.Config.good_feed.Tie as tie
 
-good-members-requires : tie.Need-good-members-requires
-good-members-requires c κs = search needs
-
-good-rates-requires : tie.Need-good-rates-requires
-good-rates-requires c κs = search needs
-
-good-schedule-requires : tie.Need-good-schedule-requires
-good-schedule-requires c κs = search needs
-
 returns : tie.Need-returns
 unfolding goodFeed
 returns c = rw (c .before .before .good-members .ensures, c .before .good-rates .ensures, c .good-schedule .ensures)
 
 pub good-feed-spec : {M : Type 1} → statement M
-good-feed-spec = tie.close (tie.spec good-members-requires good-rates-requires good-schedule-requires returns)
+good-feed-spec = tie.close (tie.spec (λ c κs. search needs) (λ c κs. search needs) (λ c κs. search needs) returns)

@@ -3,11 +3,8 @@ use borrow.Author.Needs.{needs}
 use Rattle.config.proofs.Config.good_rates.Statement.{statement}
 use Rattle.config.proofs.Config.good_rates.Tie as tie
 
-good-time-requires : tie.Need-good-time-requires
-good-time-requires c κs = search needs
-
 returns : tie.Need-returns
 returns c = rw (c .before .good-time .ensures)
 
 pub good-rates-spec : {M : Type 1} → statement M
-good-rates-spec = tie.close (tie.spec good-time-requires returns)
+good-rates-spec = tie.close (tie.spec (λ c κs. search needs) returns)

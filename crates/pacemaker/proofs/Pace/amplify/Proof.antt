@@ -5,22 +5,10 @@ use borrow.Author.Needs.{needs}
 use Rattle.pacemaker.proofs.Pace.amplify.Statement.{statement}
 use Rattle.pacemaker.proofs.Pace.amplify.Tie as tie
 
-count-above-requires : tie.Need-count-above-requires
-count-above-requires c κs = search needs
-
-reached-requires : tie.Need-reached-requires
-reached-requires c κs = search needs
-
-sending-requires : tie.Need-sending-requires
-sending-requires c κs = search needs
-
 returns : tie.Need-returns
 unfolding amplifying
 returns c =
     rw (c .sending .ensures, c .before .reached .ensures, ← c .before .before .before .count-above .ensures, lt-ltb _ _ (c .before .before .if1 .taken))
-
-stays-requires : tie.Need-stays-requires
-stays-requires c κs = search needs
 
 returns-2 : tie.Need-returns-2
 unfolding amplifying
@@ -31,9 +19,9 @@ pub amplify-spec : {M : Type 1} → statement M
 amplify-spec =
     tie.close
     (tie.spec
-    count-above-requires
-    reached-requires
-    sending-requires
+    (λ c κs. search needs)
+    (λ c κs. search needs)
+    (λ c κs. search needs)
     returns
-    stays-requires
+    (λ c κs. search needs)
     returns-2)

@@ -4,18 +4,6 @@ use Rattle.pacemaker.specs.Rules.{changeLeaderOf}
 use Rattle.pacemaker.proofs.Pace.change_leader.Statement.{statement}
 use Rattle.pacemaker.proofs.Pace.change_leader.Tie as tie
 
-with-progress-requires : tie.Need-with-progress-requires
-with-progress-requires c κs = search needs
-
-add-larger : tie.Need-add-larger
-add-larger c = search needs
-
-larger-requires : tie.Need-larger-requires
-larger-requires c κs = search needs
-
-sending-requires : tie.Need-sending-requires
-sending-requires c κs = search needs
-
 returns : tie.Need-returns
 unfolding changeLeaderOf
 returns c =
@@ -23,4 +11,4 @@ returns c =
 
 pub change-leader-spec : {M : Type 1} → statement M
 change-leader-spec =
-    tie.close (tie.spec with-progress-requires add-larger larger-requires sending-requires returns)
+    tie.close (tie.spec (λ c κs. search needs) (λ c. search needs) (λ c κs. search needs) (λ c κs. search needs) returns)

@@ -4,15 +4,9 @@ use Rattle.pacemaker.specs.Rules.{progressOf}
 use Rattle.pacemaker.proofs.Pace.made_progress.Statement.{statement}
 use Rattle.pacemaker.proofs.Pace.made_progress.Tie as tie
 
-with-progress-requires : tie.Need-with-progress-requires
-with-progress-requires c κs = search needs
-
-stays-requires : tie.Need-stays-requires
-stays-requires c κs = search needs
-
 returns : tie.Need-returns
 unfolding progressOf
 returns c = rw (c .before .stays .ensures, c .before .before .with-progress .ensures)
 
 pub made-progress-spec : {M : Type 1} → statement M
-made-progress-spec = tie.close (tie.spec with-progress-requires stays-requires returns)
+made-progress-spec = tie.close (tie.spec (λ c κs. search needs) (λ c κs. search needs) returns)

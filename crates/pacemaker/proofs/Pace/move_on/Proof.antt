@@ -5,25 +5,10 @@ use borrow.Author.Needs.{needs}
 use Rattle.pacemaker.proofs.Pace.move_on.Statement.{statement}
 use Rattle.pacemaker.proofs.Pace.move_on.Tie as tie
 
-mul-more : tie.Need-mul-more
-mul-more c = search needs
-
-count-above-requires : tie.Need-count-above-requires
-count-above-requires c κs = search needs
-
-reached-requires : tie.Need-reached-requires
-reached-requires c κs = search needs
-
-in-epoch-requires : tie.Need-in-epoch-requires
-in-epoch-requires c κs = search needs
-
 returns : tie.Need-returns
 unfolding moving
 returns c =
     rw (c .in-epoch .ensures, c .before .reached .ensures, ← c .before .before .before .count-above .ensures, lt-ltb _ _ (c .before .before .if1 .taken))
-
-stays-requires : tie.Need-stays-requires
-stays-requires c κs = search needs
 
 returns-2 : tie.Need-returns-2
 unfolding moving
@@ -34,10 +19,10 @@ pub move-on-spec : {M : Type 1} → statement M
 move-on-spec =
     tie.close
     (tie.spec
-    mul-more
-    count-above-requires
-    reached-requires
-    in-epoch-requires
+    (λ c. search needs)
+    (λ c κs. search needs)
+    (λ c κs. search needs)
+    (λ c κs. search needs)
     returns
-    stays-requires
+    (λ c κs. search needs)
     returns-2)

@@ -4,12 +4,9 @@ use borrow.Author.Needs.{needs}
 use Rattle.pacemaker.proofs.Pace.send_again.Statement.{statement}
 use Rattle.pacemaker.proofs.Pace.send_again.Tie as tie
 
-sending-requires : tie.Need-sending-requires
-sending-requires c κs = search needs
-
 returns : tie.Need-returns
 unfolding resendOf
 returns c = c .sending .ensures
 
 pub send-again-spec : {M : Type 1} → statement M
-send-again-spec = tie.close (tie.spec sending-requires returns)
+send-again-spec = tie.close (tie.spec (λ c κs. search needs) returns)
