@@ -1,0 +1,5 @@
+pub mod State
+pub mod Takes
+pub mod Rules
+pub mod Handed
+pub mod Claims
