@@ -1,0 +1,3 @@
+pub mod Ledger
+pub mod History
+pub mod Claims
