@@ -2,7 +2,7 @@
 use mathlib.Core.Bool.{Bool, not, cond, _||_}
 use mathlib.Core.List.{List}
 use Prim.Native.Nat.{ℕ, _+_, _-_}
-use lib.Dec.{leb, ltb, eqb}
+use lib.Dec.{ltb, eqb}
 use lib.ListN.{length}
 use Rattle.config.specs.declared.Answer.{Answer}
 use Rattle.config.specs.declared.Answer.the-variants.{Done, Short, Version, Kind, Sender, Length, Range}

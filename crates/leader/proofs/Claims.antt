@@ -6,7 +6,7 @@ use Prim.Native.Nat.{ℕ, _+_, _*_, _≤_, _<_}
 use native.Mathlib.Omega.{arith}
 use lib.Dec.{lit<, lit≤}
 use lib.IntN.{ℤ, pos}
-use lib.ListN.{length, drop, replicate, length-map, length-replicate}
+use lib.ListN.{length, drop, replicate, length-map}
 use lib.Seq.{length-take-le}
 use Rattle.config.specs.Limits.{signatureSize, reportSignatures, signaturesSize}
 use Rattle.config.specs.Bounds.{configOf}

@@ -1,9 +1,8 @@
 -- Document 01, "A round", Leader: what a leader holds of the round that it leads.
 use mathlib.Core.Bool.{Bool, _&&_}
-use mathlib.Core.List.{List, []}
 use Prim.Native.Nat.{ℕ}
-use lib.Dec.{eqb, leb}
-use lib.IntN.{ℤ, pos}
+use lib.Dec.{leb}
+use lib.IntN.{pos}
 use lib.ListN.{replicate}
 use Rattle.config.specs.Limits.{members}
 use Rattle.quorum.specs.Marks.{flags}

@@ -1,10 +1,10 @@
 -- Document 01, "A round", Leader: which messages and timers a leader takes, and what is wrong with a message that it takes.
-use mathlib.Core.Bool.{Bool, true, false, not, cond, _&&_, _||_}
+use mathlib.Core.Bool.{Bool, true, false, not, _&&_, _||_}
 use mathlib.Core.List.{List, [], _∷_}
 use Prim.Native.Nat.{ℕ, _+_, _-_, _*_}
-use lib.Dec.{eqb, leb, ltb}
+use lib.Dec.{eqb, ltb}
 use lib.IntN.{ℤ}
-use lib.ListN.{length, take}
+use lib.ListN.{take}
 use lib.Signed.{leZ}
 use Rattle.config.specs.Limits.{lastRound}
 use Rattle.quorum.specs.First.{bit}

@@ -2,11 +2,11 @@
 use mathlib.Core.Path.{_≡_}
 use mathlib.Core.Bool.{true}
 use mathlib.Core.List.{List}
-use Prim.Native.Nat.{ℕ, _+_, _≤_}
+use Prim.Native.Nat.{_+_, _≤_}
 use Rattle.config.specs.Limits.{mostDeposits}
 use Rattle.ledger.specs.declared.Ledger.{Ledger}
 use Rattle.ledger.specs.Ledger.{balances, owed, covered, emptyLedger}
-use Rattle.ledger.specs.History.{Entry, after, Allowed, run, AllAllowed, deposited, payments}
+use Rattle.ledger.specs.History.{Entry, run, AllAllowed, deposited, payments}
 
 -- 01, Contract: "Deposits in the history equal fund plus balances plus payments in the history."
 abbrev pub DepositsAddUp : Type 0

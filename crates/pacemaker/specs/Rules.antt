@@ -6,12 +6,10 @@ use Prim.Native.Nat.{ℕ, _+_, _-_, _*_, max}
 use lib.Dec.{ltb}
 use lib.ListN.{getD, set, take}
 use Rattle.config.specs.Limits.{lastEpoch}
-use Rattle.config.specs.declared.Timer.{Timer}
 use Rattle.config.specs.declared.Timer.the-variants.{Leave, Start, Stop}
 use Rattle.quorum.specs.Counts.{countAbove, reached}
 use Rattle.pacemaker.specs.declared.Pace.{Pace}
 use Rattle.pacemaker.specs.declared.Paced.{Paced}
-use Rattle.pacemaker.specs.declared.Sent.{Sent}
 use Rattle.pacemaker.specs.declared.Sent.the-variants.{Nothing, NewEpoch}
 use Rattle.pacemaker.specs.State.{isStarted, progressArmed, resendArmed}
 

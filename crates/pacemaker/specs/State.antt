@@ -1,6 +1,5 @@
 -- Document 01, "Pacemaker": the states a node begins in, and which states are in range.
 use mathlib.Core.Bool.{Bool, _&&_}
-use Prim.Native.Nat.{ℕ}
 use lib.Dec.{leb, eqb}
 use lib.ListN.{replicate}
 use Rattle.config.specs.Limits.{members}

@@ -4,7 +4,7 @@ use config::Config;
 use config::Saved;
 use config::Timer;
 ghost use mathlib.Core.Path.{_≡_};
-ghost use Prim.Native.Nat.{_*_, _≤_, _<_, max};
+ghost use Prim.Native.Nat.{_≤_, _<_, max};
 ghost use lib.ListN.{take};
 ghost use Rattle.config.specs.Limits.{members, lastEpoch};
 ghost use Rattle.quorum.specs.Counts.{countAbove, reached};

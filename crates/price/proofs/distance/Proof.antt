@@ -1,10 +1,7 @@
 -- `price::distance` meets its contract: by whether the two prices lie on one side of 0.
 use mathlib.Core.Path.{_≡_, sym, _∙_}
 use mathlib.Core.Bool.{Bool·beq}
-use Prim.Native.Nat.{_+_}
 use lib.IntN.{natAbs}
-use mir.Syntax.{w64}
-use mir.Val.{Fits}
 use borrow.Author.Needs.{needs}
 use Rattle.price.proofs.Magnitudes.{back, together, same-side, other-side, other-fits}
 use Rattle.price.proofs.distance.Statement.{statement}

@@ -1,12 +1,7 @@
 -- `price::magnitude` meets its contract: below 0, −1 − x never overflows, and |x| is one more.
-use mathlib.Core.Path.{_≡_, refl, _∙_, ap}
-use mathlib.Core.Bool.{true, false}
-use lib.IntN.{ℤ, pos, negsuc, natAbs, _-ℤ_}
-use lib.Signed.{ltZ}
+use lib.IntN.{negsuc, _-ℤ_}
 use mir.Syntax.{w64}
-use mir.Val.{SFits, toZ, ofZ}
 use mir.ValLaws.{toZ-ofZ}
-use native.Mathlib.Omega.{arith}
 use Rattle.price.proofs.Magnitudes.{Below, below, not-below, natAbs-fits}
 use Rattle.price.proofs.magnitude.Statement.{statement}
 use Rattle.price.proofs.magnitude.Tie as tie

@@ -1,5 +1,4 @@
 -- `price::negative` meets its contract.
-use mathlib.Core.Path.{_∙_}
 use mir.Syntax.{w64}
 use mir.ValLaws.{toZ-ofZ}
 use Rattle.price.proofs.Magnitudes.{sign}
