@@ -18,11 +18,3 @@ goodFollower s = leb (s .live) 1 && leb (s .signed) 1 && leb (s .completed) 1 &&
 -- a follower in this round with nothing marked, signed, completed or kept
 abbrev pub inRound : ℕ → ℕ → Follower
 inRound live round = record { live = live; round = round; signed = 0; completed = 0; kept = 0; marks = replicate members 0 }
-
--- before the first move, and after a restart: no report instance
-abbrev pub outside : Follower
-outside = inRound 0 0
-
--- "a fresh report instance begins"
-abbrev pub instance : Follower
-instance = inRound 1 0
