@@ -64,6 +64,7 @@ nothing-is-lost l es w h a =
     record {
       deposits = m .deposits;
       owed-too = m .owed-too;
+      paid = m .paid;
       within = m .within;
       covers = le-leb (owed (run l es)) (run l es .deposits) (omega (arith, leb-true));
     }

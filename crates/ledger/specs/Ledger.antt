@@ -12,7 +12,7 @@ use Rattle.ledger.specs.declared.Ledger.{Ledger}
 abbrev pub noMoney : Account
 noMoney = record { balance = 0; paid = 0 }
 
--- a sum that stops at the largest number of 64 bits; no sum of a covered ledger comes near it
+-- a sum that stops at the largest number of 64 bits; no sum of a covered ledger within 2^53 comes near it
 abbrev pub added : ℕ → ℕ → ℕ
 added a b = min (a + b) (2 ^ 64 - 1)
 

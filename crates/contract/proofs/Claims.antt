@@ -1,0 +1,179 @@
+-- The claims of specs/Claims.antt, each proved, and instances that compute.
+use mathlib.Core.Bool.{Bool, true, false, cond}
+use mathlib.Core.Logic.{_⊎_, inl, inr}
+use mathlib.Core.List.{List, [], _∷_}
+use mathlib.Core.Path.{_≡_, refl, _∙_}
+use Prim.Native.Nat.{_+_}
+use native.Mathlib.Omega.{arith}
+use borrow.Author.Tests.{ne-eqb}
+use lib.ListN.{length}
+use Rattle.config.specs.Limits.{members, mostDeposits}
+use Rattle.config.specs.Codes.{numberOf, isDone}
+use Rattle.config.specs.declared.Answer.the-variants as answer
+use Rattle.frame.specs.Decode.{attestedIn}
+use Rattle.frame.proofs.Checked.{checked-final}
+use Rattle.report.specs.Newer.{newer}
+use Rattle.report.proofs.Stands.{list-fault-nothing, attested-fault-nothing}
+use Rattle.ledger.specs.declared.Ledger.{Ledger}
+use Rattle.ledger.specs.Ledger.{accountAt, balances, paidOut, depositing, withdrawing, emptyLedger, covered, earning}
+use Rattle.contract.specs.declared.Terms.{Terms}
+use Rattle.contract.specs.declared.Contract.{Contract}
+use Rattle.contract.specs.State.{goodContract, freshContract, placeOf, goodTerms}
+use Rattle.contract.specs.Calls.{refusalOf, earningAll, paying, accepting, withLedger, depositAnswer, withdrawAnswer, submittedOf, depositedOf, withdrawnOf}
+use Rattle.contract.specs.History.{Call, submits, deposits, withdraws, after, run, paysIn, paysOut, paidIn, payments}
+use Rattle.contract.specs.Claims.{DepositsAddUp, RecordsTheHistory, RefusalChangesNothing, FreshIsGood, GoodStaysGood, AcceptedPassed, DoneSetsTheCommit, CommitOnlyRises, ExactFees}
+use Rattle.contract.proofs.Facts.{contract-facts, good-contract, deposit-passed, submit-passed}
+use Rattle.contract.proofs.Fees.{listedIn}
+use Rattle.contract.proofs.Moves.{Moved, moved-none, moved-then, deposit-moved, withdraw-moved, submit-ready, ready-listed, submit-moved}
+use Rattle.contract.proofs.Shares.{earn-share, earn-all-share}
+
+pub refusal-changes-nothing : RefusalChangesNothing
+unfolding submittedOf depositedOf withdrawnOf
+refusal-changes-nothing c =
+    record {
+      submit = λ body transmitter time bits h. rw h;
+      deposit = λ amount h. rw h;
+      withdraw = λ member h. rw h;
+    }
+
+pub accepted-passed : AcceptedPassed
+unfolding submittedOf
+accepted-passed c body transmitter time bits h =
+    let p = submit-passed c body transmitter time bits h .range in
+    record { stands = p .stands; rises = p .rises }
+
+-- money moves and the commit stays
+same-commit : (b : Bool) (c : Contract) (l : Ledger) → cond b (withLedger c l) c .commit ≡ c .commit
+same-commit true c l = refl
+same-commit false c l = refl
+
+pub done-sets-the-commit : DoneSetsTheCommit
+unfolding submittedOf accepting
+done-sets-the-commit c body transmitter time bits h = rw h
+
+pub commit-only-rises : CommitOnlyRises
+unfolding submittedOf depositedOf withdrawnOf accepting
+commit-only-rises c (submits body transmitter time bits) = go (isDone (refusalOf c body transmitter time bits .answer)) refl
+  where
+    go : (b : Bool) → isDone (refusalOf c body transmitter time bits .answer) ≡ b → (cond b (accepting c (attestedIn body) transmitter time) c .commit ≡ c .commit) ⊎ (newer (cond b (accepting c (attestedIn body) transmitter time) c .commit .epoch) (cond b (accepting c (attestedIn body) transmitter time) c .commit .round) (c .commit .epoch) (c .commit .round) ≡ true)
+    go true e = inr (submit-passed c body transmitter time bits e .range .rises)
+    go false e = inl refl
+commit-only-rises c (deposits amount) = inl (same-commit (isDone (depositAnswer c amount)) c (depositing (c .ledger) amount))
+commit-only-rises c (withdraws member) = inl (same-commit (isDone (withdrawAnswer c member)) c (withdrawing (c .ledger) (placeOf member)))
+
+-- ---- sums
+
+moved-call : (c : Contract) (call : Call) → length (c .ledger .accounts) ≡ members → Moved (c .ledger) (after c call .ledger) (paysIn c call) (paysOut c call)
+unfolding submittedOf depositedOf withdrawnOf accepting
+moved-call c (submits body transmitter time bits) long = go (isDone (refusalOf c body transmitter time bits .answer)) refl
+  where
+    go : (b : Bool) → isDone (refusalOf c body transmitter time bits .answer) ≡ b → Moved (c .ledger) (cond b (accepting c (attestedIn body) transmitter time) c .ledger) 0 0
+    go true e = submit-moved c body transmitter time bits long e
+    go false e = moved-none (c .ledger)
+moved-call c (deposits amount) long = go (isDone (depositAnswer c amount)) refl
+  where
+    go : (b : Bool) → isDone (depositAnswer c amount) ≡ b → Moved (c .ledger) (cond b (withLedger c (depositing (c .ledger) amount)) c .ledger) (cond b amount 0) 0
+    go true e = deposit-moved (c .ledger) amount
+    go false e = moved-none (c .ledger)
+moved-call c (withdraws member) long = go (isDone (withdrawAnswer c member)) refl
+  where
+    go : (b : Bool) → isDone (withdrawAnswer c member) ≡ b → Moved (c .ledger) (cond b (withLedger c (withdrawing (c .ledger) (placeOf member))) c .ledger) 0 (cond b (accountAt (c .ledger .accounts) (placeOf member) .balance) 0)
+    go true e = withdraw-moved c member long e
+    go false e = moved-none (c .ledger)
+
+moved-run : (c : Contract) (calls : List Call) → length (c .ledger .accounts) ≡ members → Moved (c .ledger) (run c calls .ledger) (paidIn c calls) (payments c calls)
+unfolding run paidIn payments
+moved-run c [] long = moved-none (c .ledger)
+moved-run c (call ∷ calls) long =
+    let m = moved-call c call long in
+    moved-then m (moved-run (after c call) calls (m .long ∙ long))
+
+pub records-the-history : RecordsTheHistory
+records-the-history c calls long = let m = moved-run c calls long in record { deposits = m .deposits; paid = m .paid }
+
+pub deposits-add-up : DepositsAddUp
+unfolding balances paidOut
+deposits-add-up t calls = let m = moved-run (freshContract t) calls refl in omega arith
+
+-- ---- goodness
+
+pub fresh-is-good : FreshIsGood
+unfolding balances paidOut
+fresh-is-good t h = good-contract (freshContract t) (record { terms = h; commit = refl; deposits = omega arith; covers = omega arith })
+
+pub good-stays-good : GoodStaysGood
+unfolding submittedOf depositedOf withdrawnOf accepting
+good-stays-good c (submits body transmitter time bits) long h = go (isDone (refusalOf c body transmitter time bits .answer)) refl
+  where
+    go : (b : Bool) → isDone (refusalOf c body transmitter time bits .answer) ≡ b → goodContract (cond b (accepting c (attestedIn body) transmitter time) c) ≡ true
+    go true e =
+        let g = contract-facts c h in
+        let p = submit-passed c body transmitter time bits e in
+        let m = submit-moved c body transmitter time bits long e in
+        let r = checked-final (c .terms .n) body (p .body-good) .head .range in
+        good-contract
+        (accepting c (attestedIn body) transmitter time)
+        (record {
+          terms = g .terms;
+          commit = rw (ne-eqb (attestedIn body .epoch) 0 (λ z. omega arith), ne-eqb (attestedIn body .round) 0 (λ z. omega arith), p .time-good);
+          deposits = omega arith;
+          covers = omega arith;
+        })
+    go false e = h
+good-stays-good c (deposits amount) long h = go (isDone (depositAnswer c amount)) refl
+  where
+    go : (b : Bool) → isDone (depositAnswer c amount) ≡ b → goodContract (cond b (withLedger c (depositing (c .ledger) amount)) c) ≡ true
+    go true e =
+        let g = contract-facts c h in
+        let p = deposit-passed c amount e in
+        good-contract (withLedger c (depositing (c .ledger) amount)) (record { terms = g .terms; commit = g .commit; deposits = p .1; covers = omega arith })
+    go false e = h
+good-stays-good c (withdraws member) long h = go (isDone (withdrawAnswer c member)) refl
+  where
+    go : (b : Bool) → isDone (withdrawAnswer c member) ≡ b → goodContract (cond b (withLedger c (withdrawing (c .ledger) (placeOf member))) c) ≡ true
+    go true e =
+        let g = contract-facts c h in
+        let m = withdraw-moved c member long e in
+        good-contract (withLedger c (withdrawing (c .ledger) (placeOf member))) (record { terms = g .terms; commit = g .commit; deposits = omega arith; covers = omega arith })
+    go false e = h
+
+-- ---- fees
+
+pub exact-fees : ExactFees
+unfolding submittedOf accepting paying
+exact-fees c body transmitter time bits member long low high h =
+    let listed = listedIn body in
+    let fee = c .terms .observing in
+    let r = submit-ready c body transmitter time bits long h in
+    let a = ready-listed c listed transmitter r in
+    let stands = submit-passed c body transmitter time bits h .range .stands in
+    let apart = list-fault-nothing (c .terms .f) (attestedIn body .list) (attested-fault-nothing (c .terms .f) bits (attestedIn body) stands .0) .2 in
+    let all = earn-all-share (c .ledger) listed fee (c .terms .n) member (r .few) (r .good .deposits) (r .good .covers) (r .each) (omega arith) apart low in
+    let sent = earn-share (earningAll (c .ledger) listed fee) transmitter (c .terms .sending) member (omega arith) (omega arith) low (r .own .some) (omega arith) (a .fund) in
+    rw h (omega arith)
+
+-- ---- instances: n = 4 and f = 1, with 2 for an observation and 3 for sending
+
+abbrev four : Terms
+four = record { observing = 2; sending = 3; n = 4; f = 1 }
+
+-- members 1, 2 and 3 are listed, and 1 is the transmitter
+hundred-shared : let l = paying four (depositing emptyLedger 100) (1 ∷ 2 ∷ 3 ∷ []) 1 in (l .fund ≡ 91) × (accountAt (l .accounts) (placeOf 1) .balance ≡ 5) × (accountAt (l .accounts) (placeOf 3) .balance ≡ 2) × (accountAt (l .accounts) (placeOf 4) .balance ≡ 0)
+unfolding paying earningAll earning
+hundred-shared = (refl, refl, refl, refl)
+
+-- a deposit, one above the limit, which is refused, and a withdrawal by a member, and by none
+abbrev history : List Call
+history = deposits 100 ∷ deposits mostDeposits ∷ withdraws 4 ∷ withdraws 5 ∷ []
+
+history-answers : let c = run (freshContract four) history in (c .ledger .deposits ≡ 100) × (depositedOf c mostDeposits .answer ≡ answer.Range) × (withdrawnOf c 4 .answer ≡ answer.Done) × (withdrawnOf c 5 .answer ≡ answer.Sender)
+unfolding run depositedOf depositAnswer withdrawnOf withdrawAnswer withdrawing goodContract goodTerms covered balances paidOut numberOf
+history-answers = (refl, refl, refl, refl)
+
+hundred-adds-up : let c = run (freshContract four) history in 100 ≡ c .ledger .fund + balances (c .ledger .accounts) + payments (freshContract four) history
+unfolding paidIn run depositedOf depositAnswer withdrawnOf withdrawAnswer withdrawing goodContract goodTerms covered balances paidOut numberOf
+hundred-adds-up = deposits-add-up four history
+
+hundred-good : goodContract (run (freshContract four) history) ≡ true
+unfolding run depositedOf depositAnswer withdrawnOf withdrawAnswer withdrawing goodContract goodTerms covered balances paidOut numberOf
+hundred-good = refl

@@ -1,0 +1,33 @@
+-- `contract::paid` meets its contract: what the observation fees leave of the fund holds the sending fee.
+use mathlib.Core.Path.{_≡_, ap}
+use Prim.Native.Nat.{ℕ, _*_}
+use native.Mathlib.Omega.{arith}
+use borrow.Author.Needs.{needs}
+use denote.Ref.{now}
+use lib.ListN.{length}
+use Rattle.frame.specs.Decode.{countIn}
+use Rattle.ledger.specs.declared.Ledger.{Ledger}
+use Rattle.contract.specs.Calls.{paying}
+use Rattle.contract.proofs.Fees.{listedIn, listed-count, fund-all}
+use Rattle.contract.proofs.paid.Statement.{statement}
+use Rattle.contract.proofs.paid.Tie as tie
+
+earn-requires : tie.Need-earn-requires
+earn-requires c κs =
+    let s = c .before .before in
+    let a = s .args in
+    let b = now (a .body) in
+    let fee = a .terms .observing in
+    let listed = listedIn b in
+    let many = listed-count b in
+    let fees : length listed * fee ≡ countIn b * fee = ap (λ (k : ℕ). k * fee) many in
+    let left = fund-all (a .ledger) listed fee (omega (arith, s .pre .all .observing)) in
+    let e = ap (λ (l : Ledger). l .fund) (c .paid-all .ensures) in
+    (omega (arith, s .pre .first, s .pre .last, s .pre .all .few), omega (arith, s .pre .costs))
+
+returns : tie.Need-returns
+unfolding paying
+returns c = rw (c .earn .ensures, c .before .paid-all .ensures)
+
+pub paid-spec : {M : Type 1} → statement M
+paid-spec = tie.close (tie.spec (λ c κs. search needs) (λ c. search needs) earn-requires returns)
