@@ -6,11 +6,20 @@ use mathlib.Core.Path.{_≡_, refl, _∙_}
 use Prim.Native.Nat.{_+_}
 use native.Mathlib.Omega.{arith}
 use borrow.Author.Tests.{ne-eqb}
+use lib.IntN.{pos}
 use lib.ListN.{length}
 use Rattle.config.specs.Limits.{members, mostDeposits}
 use Rattle.config.specs.Codes.{numberOf, isDone}
 use Rattle.config.specs.declared.Answer.the-variants as answer
-use Rattle.frame.specs.Decode.{attestedIn}
+use Rattle.wire.specs.Numbers.{beFrom, beNumber, beBytes}
+use Rattle.quorum.specs.First.{firstAt}
+use Rattle.frame.specs.Message.{Attested, blank}
+use Rattle.frame.specs.Table.{table, shapeOf, bodyLength}
+use Rattle.frame.specs.Encode.{observationBytes, signerBytes, flat, headBytes, countedBytes, attestedBytes}
+use Rattle.frame.specs.Decode.{entries, attestedIn, messageOf}
+use Rattle.frame.specs.Range.{allMembers}
+use Rattle.frame.specs.Check.{bodyAnswer}
+use Rattle.report.specs.Stands.{notFalling, listFault, bitsFault, repeatFault, signersFault, attestedFault}
 use Rattle.frame.proofs.Checked.{checked-final}
 use Rattle.report.specs.Newer.{newer}
 use Rattle.report.proofs.Stands.{list-fault-nothing, attested-fault-nothing}
@@ -19,7 +28,7 @@ use Rattle.ledger.specs.Ledger.{accountAt, balances, paidOut, depositing, withd
 use Rattle.contract.specs.declared.Terms.{Terms}
 use Rattle.contract.specs.declared.Contract.{Contract}
 use Rattle.contract.specs.State.{goodContract, freshContract, placeOf, goodTerms}
-use Rattle.contract.specs.Calls.{refusalOf, earningAll, paying, accepting, withLedger, depositAnswer, withdrawAnswer, submittedOf, depositedOf, withdrawnOf}
+use Rattle.contract.specs.Calls.{afterReport, afterOld, afterRange, refusalOf, earningAll, paying, accepting, withLedger, depositAnswer, withdrawAnswer, submittedOf, depositedOf, withdrawnOf}
 use Rattle.contract.specs.History.{Call, submits, deposits, withdraws, after, run, paysIn, paysOut, paidIn, payments}
 use Rattle.contract.specs.Claims.{DepositsAddUp, RecordsTheHistory, RefusalChangesNothing, FreshIsGood, GoodStaysGood, AcceptedPassed, DoneSetsTheCommit, CommitOnlyRises, ExactFees}
 use Rattle.contract.proofs.Facts.{contract-facts, good-contract, deposit-passed, submit-passed}
@@ -177,3 +186,18 @@ hundred-adds-up = deposits-add-up four history
 hundred-good : goodContract (run (freshContract four) history) ≡ true
 unfolding run depositedOf depositAnswer withdrawnOf withdrawAnswer withdrawing goodContract goodTerms covered balances paidOut numberOf
 hundred-good = refl
+
+-- a report of 100, 105 and 9000 by members 1, 2 and 3, signed by 1 and 2, for epoch 7, round 1
+abbrev three : Attested
+three =
+    record {
+      epoch = 7;
+      round = 1;
+      list = record { member = 1; value = pos 100 } ∷ record { member = 2; value = pos 105 } ∷ record { member = 3; value = pos 9000 } ∷ [];
+      signers = record { member = 1; signature = blank } ∷ record { member = 2; signature = blank } ∷ [];
+    }
+
+-- member 1 submits it at time 5: it is accepted, 105 is published, and the fees are paid; a second time it is old
+three-accepted : let c = submittedOf (run (freshContract four) history) (attestedBytes three) 1 5 3 in (c .answer ≡ answer.Done) × (c .contract .commit .median ≡ pos 105) × (c .contract .ledger .fund ≡ 91) × (submittedOf (c .contract) (attestedBytes three) 1 6 3 .answer ≡ answer.Old)
+unfolding run depositedOf depositAnswer withdrawnOf withdrawAnswer withdrawing goodContract goodTerms covered balances paidOut numberOf submittedOf refusalOf afterRange afterOld afterReport accepting paying earningAll earning attestedBytes headBytes countedBytes flat observationBytes signerBytes beBytes beNumber beFrom entries bodyAnswer bodyLength shapeOf table messageOf allMembers attestedFault listFault signersFault repeatFault bitsFault notFalling firstAt
+three-accepted = (refl, refl, refl, refl)

@@ -11,7 +11,7 @@ ghost use Rattle.config.specs.declared.Answer.the-variants.{Done};
 ghost use Rattle.frame.specs.Decode.{attestedIn};
 ghost use Rattle.frame.specs.Check.{bodyAnswer};
 ghost use Rattle.report.specs.Stands.{membersOf};
-ghost use Rattle.contract.specs.State.{goodTerms, goodContract};
+ghost use Rattle.contract.specs.State.{goodTerms, goodContract, placeOf};
 ghost use Rattle.contract.specs.Payable.{CoversAll, Covers, Payable};
 ghost use Rattle.contract.specs.Calls.{madeOf, cost, plainly, afterReport, afterRange, refusalOf, earningAll, paying, accepting, submittedOf, depositAnswer, depositedOf, withdrawAnswer, withdrawnOf};
 
@@ -254,7 +254,7 @@ impl Contract {
     {
         let answer = self.withdraw_answer(member);
         if answer.is_done() {
-            let place = member as usize - 1;
+            let place = place_of(member);
             let ledger = self.ledger;
             let amount = ledger.balance(place);
             let ledger = ledger.withdraw(place);
@@ -287,6 +287,14 @@ impl Contract {
     }
 }
 
+// The place of a member's account.
+fn place_of(member: u8) -> usize
+    requires { ⌜ 1 ≤ member ⌝ }
+    ensures { λ r. ⌜ r ≡ placeOf member ⌝ }
+{
+    member as usize - 1
+}
+
 fn answer_made(good: bool) -> Answer
     ensures { λ r. ⌜ r ≡ cond good Answer.Done Answer.Config ⌝ }
 {
@@ -309,7 +317,7 @@ fn paid(terms: Terms, ledger: Ledger, body: &[u8], transmitter: u8) -> Ledger
     ensures { λ r. ⌜ r ≡ paying terms ledger (membersOf (attestedIn (now (body .entry)) .list)) transmitter ⌝ }
 {
     let all = paid_all(terms, ledger, body);
-    all.earn(transmitter as usize - 1, terms.sending)
+    all.earn(place_of(transmitter), terms.sending)
 }
 
 // The ledger after each listed member has earned the observation fee.
@@ -322,7 +330,7 @@ fn paid_all(terms: Terms, ledger: Ledger, body: &[u8]) -> Ledger
     let mut l = ledger;
     let mut i: usize = 0;
     while i < m {
-        let place = frame::member_at(body, stride, i) as usize - 1;
+        let place = place_of(frame::member_at(body, stride, i));
         l = l.earn(place, terms.observing);
         i += 1;
     }

@@ -14,7 +14,7 @@ use Rattle.contract.proofs.paid.Tie as tie
 
 earn-requires : tie.Need-earn-requires
 earn-requires c κs =
-    let s = c .before .before in
+    let s = c .before .before .before in
     let a = s .args in
     let b = now (a .body) in
     let fee = a .terms .observing in
@@ -22,12 +22,12 @@ earn-requires c κs =
     let many = listed-count b in
     let fees : length listed * fee ≡ countIn b * fee = ap (λ (k : ℕ). k * fee) many in
     let left = fund-all (a .ledger) listed fee (omega (arith, s .pre .all .observing)) in
-    let e = ap (λ (l : Ledger). l .fund) (c .paid-all .ensures) in
-    (omega (arith, s .pre .first, s .pre .last, s .pre .all .few), omega (arith, s .pre .costs))
+    let e = ap (λ (l : Ledger). l .fund) (c .before .paid-all .ensures) in
+    (omega (arith, c .place-of .ensures, s .pre .first, s .pre .last, s .pre .all .few), omega (arith, s .pre .costs))
 
 returns : tie.Need-returns
 unfolding paying
-returns c = rw (c .earn .ensures, c .before .paid-all .ensures)
+returns c = rw (c .earn .ensures, c .before .place-of .ensures, c .before .before .paid-all .ensures)
 
 pub paid-spec : {M : Type 1} → statement M
-paid-spec = tie.close (tie.spec (λ c κs. search needs) (λ c. search needs) earn-requires returns)
+paid-spec = tie.close (tie.spec (λ c κs. search needs) (λ c κs. c .before .before .pre .first) earn-requires returns)

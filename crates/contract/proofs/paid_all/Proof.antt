@@ -53,33 +53,31 @@ loop-holds c = let s = c .before .before .before in (omega arith, simp unary-cla
 member-at-requires : tie.Need-member-at-requires Inv-loop μ-loop
 member-at-requires c κs = rw (c .before .before .stride .ensures) (checked (c .before .before .before .before .before) .list .entry (c .before .loop .i) (inside c))
 
-cast-place : tie.Need-cast-place Inv-loop μ-loop
-cast-place c = omega (arith, ranged c .1)
-
 earn-requires : tie.Need-earn-requires Inv-loop μ-loop
 earn-requires c κs =
-    let a = c .before .before .before .before .before .before .args in
-    let next = fees-next (countIn (now (a .body))) (c .before .before .loop .i) (a .terms .observing) (inside (c .before)) in
-    (omega (arith, ranged c .0, ranged c .1), omega (arith, c .before .before .loop .inv .1))
+    let a = c .before .before .before .before .before .before .before .args in
+    let next = fees-next (countIn (now (a .body))) (c .before .before .before .loop .i) (a .terms .observing) (inside (c .before .before)) in
+    (omega (arith, c .place-of .ensures, ranged (c .before) .0, ranged (c .before) .1), omega (arith, c .before .before .before .loop .inv .1))
 
 loop-again : tie.Need-loop-again Inv-loop μ-loop
 unfolding earning
 loop-again c =
-    let a = c .before .before .before .before .before .before .before .args in
+    let a = c .before .before .before .before .before .before .before .before .args in
     let b = now (a .body) in
-    let i = c .before .before .before .loop .i in
-    let l = c .before .before .before .loop .l in
+    let i = c .before .before .before .before .loop .i in
+    let l = c .before .before .before .before .loop .l in
     let fee = a .terms .observing in
-    let h = inside (c .before .before) in
+    let h = inside (c .before .before .before) in
     let next = fees-next (countIn b) i fee h in
     let left = ap (λ (x : Ledger). x .fund) (c .earn .ensures) in
-    let e = said (c .before) ∙ sym (List·getD-map (λ (o : Observation). o .member) (observationsIn (shapeOf 6 .entry) b) i noObservation) in
+    let e = said (c .before .before) ∙ sym (List·getD-map (λ (o : Observation). o .member) (observationsIn (shapeOf 6 .entry) b) i noObservation) in
     let long = listed-count b in (
       omega arith,
-      omega (arith, c .before .before .before .loop .inv .1),
+      omega (arith, c .before .before .before .before .loop .inv .1),
       ap (λ (x : Ledger). earningAll x (drop (i + 1) (listedIn b)) fee) (c .earn .ensures)
-          ∙ earn-next l (listedIn b) i fee (c .before .member-at .result) (omega arith) e
-          ∙ c .before .before .before .loop .inv .2,
+          ∙ ap (λ (place : ℕ). earningAll (earning l place fee) (drop (i + 1) (listedIn b)) fee) (c .before .place-of .ensures)
+          ∙ earn-next l (listedIn b) i fee (c .before .before .member-at .result) (omega arith) e
+          ∙ c .before .before .before .before .loop .inv .2,
     )
 
 returns : tie.Need-returns Inv-loop μ-loop
@@ -99,8 +97,7 @@ paid-all-spec =
     (λ c κs. search needs)
     loop-holds
     member-at-requires
-    cast-place
-    (λ c. ranged c .0)
+    (λ c κs. ranged c .0)
     earn-requires
     (λ c. omega arith)
     (λ c. omega arith)

@@ -23,8 +23,8 @@ placed c =
 returns : tie.Need-returns
 unfolding withdrawnOf
 returns c =
-    let d = c .before .before .before .before .before in
-    rw (c .before .before .withdraw .ensures, c .before .before .before .balance .ensures, d .before .before .withdraw-answer .ensures, sym (answered (d .before)) ∙ d .if1 .taken)
+    let d = c .before .before .before .before .before .before in
+    rw (c .before .before .withdraw .ensures, c .before .before .before .balance .ensures, c .before .before .before .before .before .place-of .ensures, d .before .before .withdraw-answer .ensures, sym (answered (d .before)) ∙ d .if1 .taken)
 
 returns-2 : tie.Need-returns-2
 unfolding withdrawnOf
@@ -36,8 +36,8 @@ withdraw-spec =
     (tie.spec
     (λ c κs. search needs)
     (λ c κs. search needs)
-    (λ c. placed c .0)
-    (λ c κs. placed (c .before) .1)
-    (λ c κs. placed (c .before .before) .1)
+    (λ c κs. placed c .0)
+    (λ c κs. rw (c .before .place-of .ensures) (placed (c .before .before) .1))
+    (λ c κs. rw (c .before .before .place-of .ensures) (placed (c .before .before .before) .1))
     returns
     returns-2)
