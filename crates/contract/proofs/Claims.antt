@@ -2,7 +2,7 @@
 use mathlib.Core.Bool.{Bool, true, false, cond}
 use mathlib.Core.Logic.{_⊎_, inl, inr}
 use mathlib.Core.List.{List, [], _∷_}
-use mathlib.Core.Path.{_≡_, refl, _∙_}
+use mathlib.Core.Path.{_≡_, refl, sym, ap, _∙_}
 use Prim.Native.Nat.{_+_}
 use native.Mathlib.Omega.{arith}
 use borrow.Author.Tests.{ne-eqb}
@@ -11,6 +11,7 @@ use lib.ListN.{length}
 use Rattle.config.specs.Limits.{members, mostDeposits}
 use Rattle.config.specs.Codes.{numberOf, isDone}
 use Rattle.config.specs.declared.Answer.the-variants as answer
+use Rattle.config.specs.declared.Commit.{Commit}
 use Rattle.wire.specs.Numbers.{beFrom, beNumber, beBytes}
 use Rattle.quorum.specs.First.{firstAt}
 use Rattle.frame.specs.Message.{Attested, blank}
@@ -30,10 +31,11 @@ use Rattle.contract.specs.declared.Contract.{Contract}
 use Rattle.contract.specs.State.{goodContract, freshContract, placeOf, goodTerms}
 use Rattle.contract.specs.Calls.{afterReport, afterOld, afterRange, refusalOf, earningAll, paying, accepting, withLedger, depositAnswer, withdrawAnswer, submittedOf, depositedOf, withdrawnOf}
 use Rattle.contract.specs.History.{Call, submits, deposits, withdraws, after, run, paysIn, paysOut, paidIn, payments}
-use Rattle.contract.specs.Claims.{DepositsAddUp, RecordsTheHistory, RefusalChangesNothing, FreshIsGood, GoodStaysGood, AcceptedPassed, DoneSetsTheCommit, CommitOnlyRises, ExactFees}
+use Rattle.contract.specs.Claims.{DepositsAddUp, RecordsTheHistory, RefusalChangesNothing, FreshIsGood, GoodStaysGood, AcceptedPassed, DoneSetsTheCommit, NotOlder, CommitOnlyRises, ExactFees}
 use Rattle.contract.proofs.Facts.{contract-facts, good-contract, deposit-passed, submit-passed}
 use Rattle.contract.proofs.Fees.{listedIn}
 use Rattle.contract.proofs.Moves.{Moved, moved-none, moved-then, deposit-moved, withdraw-moved, submit-ready, ready-listed, submit-moved}
+use Rattle.contract.proofs.Rises.{newer-trans}
 use Rattle.contract.proofs.Shares.{earn-share, earn-all-share}
 
 pub refusal-changes-nothing : RefusalChangesNothing
@@ -60,15 +62,26 @@ pub done-sets-the-commit : DoneSetsTheCommit
 unfolding submittedOf accepting
 done-sets-the-commit c body transmitter time bits h = rw h
 
-pub commit-only-rises : CommitOnlyRises
+rises-once : (c : Contract) (call : Call) → NotOlder c (after c call)
 unfolding submittedOf depositedOf withdrawnOf accepting
-commit-only-rises c (submits body transmitter time bits) = go (isDone (refusalOf c body transmitter time bits .answer)) refl
+rises-once c (submits body transmitter time bits) = go (isDone (refusalOf c body transmitter time bits .answer)) refl
   where
     go : (b : Bool) → isDone (refusalOf c body transmitter time bits .answer) ≡ b → (cond b (accepting c (attestedIn body) transmitter time) c .commit ≡ c .commit) ⊎ (newer (cond b (accepting c (attestedIn body) transmitter time) c .commit .epoch) (cond b (accepting c (attestedIn body) transmitter time) c .commit .round) (c .commit .epoch) (c .commit .round) ≡ true)
     go true e = inr (submit-passed c body transmitter time bits e .range .rises)
     go false e = inl refl
-commit-only-rises c (deposits amount) = inl (same-commit (isDone (depositAnswer c amount)) c (depositing (c .ledger) amount))
-commit-only-rises c (withdraws member) = inl (same-commit (isDone (withdrawAnswer c member)) c (withdrawing (c .ledger) (placeOf member)))
+rises-once c (deposits amount) = inl (same-commit (isDone (depositAnswer c amount)) c (depositing (c .ledger) amount))
+rises-once c (withdraws member) = inl (same-commit (isDone (withdrawAnswer c member)) c (withdrawing (c .ledger) (placeOf member)))
+
+pub commit-only-rises : CommitOnlyRises
+unfolding run
+commit-only-rises c [] = inl refl
+commit-only-rises c (call ∷ calls) = then (rises-once c call) (commit-only-rises (after c call) calls)
+  where
+    then : NotOlder c (after c call) → NotOlder (after c call) (run (after c call) calls) → NotOlder c (run (after c call) calls)
+    then (inl e) (inl h) = inl (h ∙ e)
+    then (inl e) (inr h) = inr (ap (λ (k : Commit). newer (run (after c call) calls .commit .epoch) (run (after c call) calls .commit .round) (k .epoch) (k .round)) (sym e) ∙ h)
+    then (inr e) (inl h) = inr (ap (λ (k : Commit). newer (k .epoch) (k .round) (c .commit .epoch) (c .commit .round)) h ∙ e)
+    then (inr e) (inr h) = inr (newer-trans _ _ (after c call .commit .epoch) (after c call .commit .round) _ _ h e)
 
 -- ---- sums
 

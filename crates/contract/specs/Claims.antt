@@ -64,10 +64,13 @@ abbrev pub DoneSetsTheCommit : Type 0
 DoneSetsTheCommit =
     (c : Contract) (body : List ℕ) (transmitter time bits : ℕ) → isDone (submittedOf c body transmitter time bits .answer) ≡ true → submittedOf c body transmitter time bits .contract .commit ≡ record { median = medianOf (valuesOf (attestedIn body .list)); time = time; epoch = attestedIn body .epoch; round = attestedIn body .round }
 
--- So (epoch, round) only rises: a call leaves the commit as it was, or sets a newer one.
+-- d has the commit of c, or a newer one
+abbrev pub NotOlder : Contract → Contract → Type 0
+NotOlder c d = (d .commit ≡ c .commit) ⊎ (newer (d .commit .epoch) (d .commit .round) (c .commit .epoch) (c .commit .round) ≡ true)
+
+-- So (epoch, round) only rises: any calls, refused ones among them, leave the commit as it was, or a newer one.
 abbrev pub CommitOnlyRises : Type 0
-CommitOnlyRises =
-    (c : Contract) (call : Call) → (after c call .commit ≡ c .commit) ⊎ (newer (after c call .commit .epoch) (after c call .commit .round) (c .commit .epoch) (c .commit .round) ≡ true)
+CommitOnlyRises = (c : Contract) (calls : List Call) → NotOlder c (run c calls)
 
 -- Nobody is paid but listed members and the transmitter, and they the exact fees: at each place the balance grows by the observation fee where its
 -- member is listed, and by the sending fee where it is the transmitter's.
