@@ -206,7 +206,7 @@ impl Pace {
 }
 
 // Nothing is sent and no timer changes.
-fn stays(p: Pace) -> Paced
+pub fn stays(p: Pace) -> Paced
     ensures { λ r. ⌜ r ≡ stays p ⌝ }
 {
     Paced {

@@ -1,0 +1,27 @@
+-- The laws of the node that the proofs of this crate and of others cite, and the claims: each file says what it is about.
+pub mod Checks
+pub mod Ready
+pub mod Frames
+pub mod Followed
+pub mod Steps
+pub mod Ruled
+pub mod Cases
+pub mod Listed
+pub mod Sent
+pub mod Written
+pub mod Closed
+pub mod Typed
+pub mod Armed
+pub mod Turns
+pub mod Runs
+pub mod Taken
+pub mod Epochs
+pub mod Observations
+pub mod Order
+pub mod Calls
+pub mod Rounds
+pub mod Bodies
+pub mod Kept
+pub mod Handed
+pub mod Instances
+pub mod Rounded

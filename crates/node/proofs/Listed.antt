@@ -1,0 +1,138 @@
+-- Each call ends with an answer that document 01 lists for it: every test of a call's checks hands on one of two answers, and both are listed.
+use mathlib.Core.Path.{_≡_, refl}
+use mathlib.Core.Bool.{Bool, true, false, not, cond, _&&_, _||_}
+use mathlib.Core.List.{List, [], _∷_}
+use Prim.Native.Nat.{ℕ, _+_}
+use lib.Dec.{eqb, leb, ltb}
+use lib.ListN.{length}
+use Rattle.config.specs.Bounds.{goodTime, goodCommit, goodConfig}
+use Rattle.config.specs.Codes.{numberOf, isDone}
+use Rattle.config.specs.declared.Answer.{Answer}
+use Rattle.config.specs.declared.Answer.the-variants as answer
+use Rattle.config.specs.declared.Config.{Config}
+use Rattle.config.specs.declared.Saved.{Saved}
+use Rattle.quorum.specs.First.{among}
+use Rattle.frame.specs.Message.{Message, newEpoch, observeReq, observe, reportReq, report, final, finalEcho}
+use Rattle.frame.specs.Table.{goodKind, versionOf, trailerLength}
+use Rattle.frame.specs.Decode.{kindIn, senderIn, versionIn, lengthIn, numberIn, bodyIn, messageOf, messageIn}
+use Rattle.frame.specs.Range.{goodMessage}
+use Rattle.frame.specs.Check.{goodLength, bodyAnswer, afterSender, afterKind, afterVersion, afterShort, tooShort, frameAnswer}
+use Rattle.pacemaker.specs.State.{isStarted}
+use Rattle.pacemaker.specs.Rules as pacemaker
+use Rattle.follower.specs.declared.Verdict.{Verdict}
+use Rattle.follower.specs.declared.Verdict.the-variants.{Ignored, Wrong, Taken}
+use Rattle.follower.specs.Takes.{verdictOf, answerOf}
+use Rattle.leader.specs.Takes as leader
+use Rattle.node.specs.declared.Node.{Node}
+use Rattle.node.specs.State.{nothingSaved, epochOf, leaderNow, leads, goodState}
+use Rattle.node.specs.Event.{Delivery, Event, starts, delivers, fires}
+use Rattle.node.specs.Answers.{startAnswer, firing, ending, timerAnswer, followerAnswer, leaderAnswer, ruleAnswer, pastLast, messageAnswer, deliveryAnswer, eventAnswer, afterState}
+use Rattle.node.specs.Calls.{restoreAnswer, restoreOf, freshOf, inRoom}
+use Rattle.node.specs.Claims.{listed, AnswersAreListed}
+use Rattle.node.proofs.Steps.{called-answer}
+
+abbrev In : List ℕ → Answer → Type 0
+In l a = among (numberOf a) l ≡ true
+
+either-in : (l : List ℕ) (t : Bool) (a b : Answer) → In l a → In l b → In l (cond t a b)
+either-in l true a b p q = p
+either-in l false a b p q = q
+
+-- ---- a delivery
+
+module _ (d : Delivery) where
+  abbrev all : List ℕ
+  all = listed (delivers d)
+
+  frame-in : (f : List ℕ) (n number link : ℕ) → In all (frameAnswer f n number link)
+  unfolding numberOf frameAnswer afterShort afterVersion afterKind afterSender bodyAnswer
+  frame-in f n number link =
+      either-in all (tooShort f) _ _ refl
+      (either-in all (not (eqb (versionIn f) (versionOf n)) || not (eqb (numberIn f) number)) _ _ refl
+      (either-in all (not (goodKind (kindIn f))) _ _ refl
+      (either-in all (eqb (senderIn f) 0 || ltb n (senderIn f) || not (eqb (senderIn f) link)) _ _ refl
+      (either-in all (not (eqb (lengthIn f + trailerLength) (length f))) _ _ refl
+      (either-in all (not (goodLength (kindIn f) (bodyIn f))) _ _ refl
+      (either-in all (not (goodMessage n (messageOf (kindIn f) (bodyIn f)))) _ _ refl refl))))))
+
+  verdict-in : (v : Verdict) → In all (answerOf v)
+  unfolding numberOf
+  verdict-in Ignored = refl
+  verdict-in (Wrong x) = refl
+  verdict-in Taken = refl
+
+  module _ (n : Node) (j bits : ℕ) where
+    follower-in : (m : Message) → In all (followerAnswer n j bits m)
+    unfolding followerAnswer
+    follower-in m = verdict-in (verdictOf (n .follower) (n .config .f) (epochOf n) (leaderNow n) j bits m)
+
+    leader-in : (m : Message) → In all (leaderAnswer n j bits m)
+    unfolding numberOf leaderAnswer
+    leader-in m =
+        either-in all (not (leader.takes (n .leader) (leads n) (epochOf n) j m)) _ _ refl
+        (either-in all (not (leader.stands (n .config .n) (n .leader) bits m)) _ _ refl refl)
+
+    rule-in : (m : Message) → In all (ruleAnswer n j bits m)
+    unfolding numberOf
+    rule-in (newEpoch e) = refl
+    rule-in (observeReq e r) = follower-in (observeReq e r)
+    rule-in (observe e r v g) = leader-in (observe e r v g)
+    rule-in (reportReq e r xs) = follower-in (reportReq e r xs)
+    rule-in (report e r xs g) = leader-in (report e r xs g)
+    rule-in (final a) = follower-in (final a)
+    rule-in (finalEcho a) = follower-in (finalEcho a)
+
+    message-in : (m : Message) → In all (messageAnswer n j bits m)
+    unfolding numberOf messageAnswer
+    message-in m =
+        either-in all (not (isStarted (n .pace))) _ _ refl
+        (either-in all (not (isDone (ruleAnswer n j bits m))) _ _ (rule-in m)
+        (either-in all (pastLast n m) _ _ refl refl))
+
+-- ---- all of them
+
+event-in : (n : Node) (e : Event) → In (listed e) (eventAnswer n e)
+unfolding numberOf startAnswer timerAnswer deliveryAnswer
+event-in n (starts time) =
+    let l = listed (starts time) in
+    either-in l (not (goodTime time)) _ _ refl (either-in l (not (pacemaker.mayStart (n .pace))) _ _ refl refl)
+event-in n (fires t time) =
+    let l = listed (fires t time) in
+    either-in l (not (goodTime time)) _ _ refl (either-in l (not (firing n t)) _ _ refl (either-in l (ending n t) _ _ refl refl))
+event-in n (delivers d) =
+    let l = listed (delivers d) in
+    let a = frameAnswer (d .frame) (n .config .n) (n .config .number) (d .link) in
+    either-in l (not (isDone a)) _ _ (frame-in d (d .frame) (n .config .n) (n .config .number) (d .link))
+    (either-in l (not (goodTime (d .time) && goodCommit (d .commit))) _ _ refl (message-in d n (d .link) (d .bits) (messageIn (d .frame))))
+
+-- STATE and ROOM are listed for every call
+first-in : (e : Event) → In (listed e) answer.State × In (listed e) answer.Room
+unfolding numberOf
+first-in (starts time) = (refl, refl)
+first-in (fires t time) = (refl, refl)
+first-in (delivers d) = (refl, refl)
+
+state-in : (e : Event) (room : Bool) (n : Node) (kept : List ℕ) → In (listed e) (afterState room n kept (eventAnswer n e))
+unfolding afterState
+state-in e room n kept =
+    let (state, full) = first-in e in
+    either-in (listed e) (not (goodState n kept)) _ _ state (either-in (listed e) (not room) _ _ full (event-in n e))
+
+restore-in : (c : Config) (s : Saved) → In (0 ∷ 12 ∷ 2 ∷ []) (restoreAnswer c s)
+unfolding numberOf restoreAnswer
+restore-in c s =
+    either-in (0 ∷ 12 ∷ 2 ∷ []) (not (goodConfig c)) _ _ refl (either-in (0 ∷ 12 ∷ 2 ∷ []) (not (leb (s .epoch) (s .highest))) _ _ refl refl)
+
+-- what was never saved is not below itself
+fresh-in : (c : Config) → In (0 ∷ 12 ∷ []) (restoreAnswer c nothingSaved)
+unfolding numberOf restoreAnswer
+fresh-in c = either-in (0 ∷ 12 ∷ []) (not (goodConfig c)) _ _ refl refl
+
+pub answers-are-listed : AnswersAreListed
+unfolding freshOf restoreOf
+answers-are-listed w e outbox at c s =
+    record {
+      call = rw (called-answer w e outbox at) (state-in e (inRoom w outbox at) (w .node) (w .kept));
+      fresh = fresh-in c;
+      restore = restore-in c s;
+    }

@@ -1,0 +1,9 @@
+pub mod State
+pub mod Event
+pub mod Answers
+pub mod Effects
+pub mod Calls
+pub mod Ready
+pub mod Runs
+pub mod Typed
+pub mod Claims
