@@ -1,0 +1,163 @@
+-- What the checks of states and calls tell, as plain facts for whoever passed them.
+use mathlib.Core.Path.{_≡_, refl, sym, _∙_}
+use mathlib.Core.Bool.{Bool, true, false, not, cond, _&&_, _||_, false≢true, or-true}
+use mathlib.Core.List.{List}
+use Prim.Native.Nat.{ℕ, _≤_}
+use borrow.Author.Tests.{eqb-false, ltb-false, ne-eqb, le-ltb, not-false}
+use lib.Dec.{eqb, ltb}
+use Rattle.config.specs.Limits.{slots}
+use Rattle.config.specs.Bounds.{goodConfig, goodTime, goodCommit, paired}
+use Rattle.config.specs.Codes.{numberOf, isDone}
+use Rattle.config.specs.declared.Answer.{Answer}
+use Rattle.config.specs.declared.Answer.the-variants as answer
+use Rattle.config.specs.declared.Commit.{Commit}
+use Rattle.config.proofs.Facts.{and-true, done-only}
+use Rattle.quorum.specs.Marks.{flags}
+use Rattle.frame.specs.Message.{Attested}
+use Rattle.frame.specs.Decode.{attestedIn}
+use Rattle.frame.specs.Check.{bodyAnswer}
+use Rattle.report.specs.Newer.{newer}
+use Rattle.sender.specs.declared.Sender.{Sender}
+use Rattle.sender.specs.State.{goodTimes, goodSlots, roomy, goodFields, goodSender, timeOf}
+use Rattle.sender.specs.Stage.{permutes, placeIn, waits}
+use Rattle.sender.specs.Waiting.{earliest, freeIn}
+use Rattle.sender.specs.Calls.{afterSimilar, similar, medianIn, old, afterConfig, afterBody, transmitAnswer, transmitted, transmitOf, sent, refusedTransmission, early, timeoutAnswer, released, timeoutOf, refusedTimeout}
+
+-- ---- tests
+
+neither : (a b : Bool) → (a || b) ≡ false → (a ≡ false) × (b ≡ false)
+neither true b h = absurd (false≢true (sym h))
+neither false b h = (refl, h)
+
+not-second : (a b : Bool) → a && b ≡ false → a ≡ true → b ≡ false
+not-second true b h e = h
+not-second false b h e = absurd (false≢true e)
+
+-- ---- states
+
+pub record SenderGood (s : Sender) (waiting : List ℕ) : Type 0 where
+  pub config : goodConfig (s .config) ≡ true
+  pub accepted : paired (s .accepted .epoch) (s .accepted .round) ≡ true
+  pub taken : flags (s .taken) ≡ true
+  pub times : goodTimes (s .times) ≡ true
+  pub held : goodSlots slots s waiting ≡ true
+
+pub sender-facts : (s : Sender) (waiting : List ℕ) → roomy waiting ≡ true → goodSender s waiting ≡ true → SenderGood s waiting
+unfolding goodSender goodFields
+sender-facts s waiting room h =
+    let p = and-true (goodFields s) (not (roomy waiting) || goodSlots slots s waiting) h in
+    let q = and-true (goodConfig (s .config) && paired (s .accepted .epoch) (s .accepted .round) && flags (s .taken)) (goodTimes (s .times)) (p .0) in
+    let r = and-true (goodConfig (s .config) && paired (s .accepted .epoch) (s .accepted .round)) (flags (s .taken)) (q .0) in
+    let t = and-true (goodConfig (s .config)) (paired (s .accepted .epoch) (s .accepted .round)) (r .0) in
+    record { config = t .0; accepted = t .1; taken = r .1; times = q .1; held = rw room at (p .1) }
+
+pub good-sender : (s : Sender) (waiting : List ℕ) → SenderGood s waiting → goodSender s waiting ≡ true
+unfolding goodSender goodFields
+good-sender s waiting g = rw (g .config, g .accepted, g .taken, g .times, g .held) (or-true (not (roomy waiting)))
+
+-- a sender whose configuration is not in range is not
+pub config-refused : (s : Sender) (waiting : List ℕ) → goodConfig (s .config) ≡ false → goodSender s waiting ≡ false
+unfolding goodSender goodFields
+config-refused s waiting h = rw h
+
+-- ---- answers
+
+-- a stage that refuses was passed, where what comes of it is DONE
+stage-passed : (b : Bool) (x y : Answer) → isDone x ≡ false → isDone (cond b x y) ≡ true → (b ≡ false) × (isDone y ≡ true)
+stage-passed true x y h e = absurd (false≢true (sym h ∙ e))
+stage-passed false x y h e = (refl, e)
+
+-- an answer that is passed on unless it is DONE
+body-passed : (said rest : Answer) → isDone (cond (not (isDone said)) said rest) ≡ true → (said ≡ answer.Done) × (isDone rest ≡ true)
+body-passed said rest = go (isDone said) refl
+  where
+    go : (b : Bool) → isDone said ≡ b → isDone (cond (not b) said rest) ≡ true → (said ≡ answer.Done) × (isDone rest ≡ true)
+    go true e h = (done-only said e, h)
+    go false e h = absurd (false≢true (sym e ∙ h))
+
+-- ---- transmissions
+
+pub record TransmitPassed (s : Sender) (body : List ℕ) (time : ℕ) (commit : Commit) (permutation waiting : List ℕ) : Type 0 where
+  pub good : goodSender s waiting ≡ true
+  pub room : roomy waiting ≡ true
+  pub body-good : bodyAnswer (s .config .n) 6 body ≡ answer.Done
+  pub time-good : goodTime time ≡ true
+  pub order : permutes (s .config .n) permutation ≡ true
+  pub above : newer (attestedIn body .epoch) (attestedIn body .round) (commit .epoch) (commit .round) ≡ true
+  pub rises : newer (attestedIn body .epoch) (attestedIn body .round) (s .accepted .epoch) (s .accepted .round) ≡ true
+  pub free : waits (s .config) (placeIn (s .config) permutation) ≡ true → freeIn (s .taken) ≡ slots → ⊥
+
+-- it is above both, and where it is to wait there is a free slot
+config-passed : (s : Sender) (commit : Commit) (a : Attested) (place : ℕ) → isDone (afterConfig s commit a place) ≡ true → (newer (a .epoch) (a .round) (commit .epoch) (commit .round) ≡ true) × (newer (a .epoch) (a .round) (s .accepted .epoch) (s .accepted .round) ≡ true) × (waits (s .config) place && eqb (freeIn (s .taken)) slots ≡ false)
+unfolding afterConfig afterSimilar numberOf
+config-passed s commit a place h =
+    let p = stage-passed (old s commit a) answer.Old (cond (similar s commit (medianIn a)) answer.Similar (afterSimilar s place)) refl h in
+    let q = stage-passed (similar s commit (medianIn a)) answer.Similar (afterSimilar s place) refl (p .1) in
+    let r = stage-passed (waits (s .config) place && eqb (freeIn (s .taken)) slots) answer.Queue answer.Done refl (q .1) in
+    let t = neither (not (newer (a .epoch) (a .round) (commit .epoch) (commit .round))) (not (newer (a .epoch) (a .round) (s .accepted .epoch) (s .accepted .round))) (p .0) in
+    (not-false _ (t .0), not-false _ (t .1), r .0)
+
+pub transmit-passed : (s : Sender) (body : List ℕ) (time : ℕ) (commit : Commit) (permutation waiting : List ℕ) → isDone (transmitAnswer s body time commit permutation waiting) ≡ true → TransmitPassed s body time commit permutation waiting
+unfolding transmitAnswer afterBody numberOf
+transmit-passed s body time commit permutation waiting h =
+    let place = placeIn (s .config) permutation in
+    let said = bodyAnswer (s .config .n) 6 body in
+    let after = afterBody s body time commit permutation in
+    let last = afterConfig s commit (attestedIn body) place in
+    let p = stage-passed (not (goodSender s waiting)) answer.State (cond (not (roomy waiting)) answer.Room (cond (not (isDone said)) said after)) refl h in
+    let q = stage-passed (not (roomy waiting)) answer.Room (cond (not (isDone said)) said after) refl (p .1) in
+    let r = body-passed said after (q .1) in
+    let t = stage-passed (not (goodTime time && goodCommit commit)) answer.Range (cond (not (permutes (s .config .n) permutation)) answer.Config last) refl (r .1) in
+    let u = stage-passed (not (permutes (s .config .n) permutation)) answer.Config last refl (t .1) in
+    let v = config-passed s commit (attestedIn body) place (u .1) in
+    record {
+      good = not-false _ (p .0);
+      room = not-false _ (q .0);
+      body-good = r .0;
+      time-good = and-true (goodTime time) (goodCommit commit) (not-false _ (t .0)) .0;
+      order = not-false _ (u .0);
+      above = v .0;
+      rises = v .1;
+      free = λ w. eqb-false (freeIn (s .taken)) slots (not-second (waits (s .config) place) (eqb (freeIn (s .taken)) slots) (v .2) w);
+    }
+
+-- what a call answers is DONE where no check refuses
+pub transmit-answer : (s : Sender) (body : List ℕ) (time : ℕ) (commit : Commit) (permutation waiting : List ℕ) → isDone (transmitOf s body time commit permutation waiting .result .answer) ≡ isDone (transmitAnswer s body time commit permutation waiting)
+unfolding transmitOf transmitted numberOf
+transmit-answer s body time commit permutation waiting = go (isDone (transmitAnswer s body time commit permutation waiting)) refl
+  where
+    go : (b : Bool) → isDone (transmitAnswer s body time commit permutation waiting) ≡ b → isDone (cond b (transmitted s body time (placeIn (s .config) permutation) waiting) (sent (refusedTransmission (transmitAnswer s body time commit permutation waiting) s) waiting) .result .answer) ≡ isDone (transmitAnswer s body time commit permutation waiting)
+    go true e = sym e
+    go false e = refl
+
+-- ---- timeouts
+
+pub record TimeoutPassed (s : Sender) (time : ℕ) (waiting : List ℕ) : Type 0 where
+  pub good : goodSender s waiting ≡ true
+  pub room : roomy waiting ≡ true
+  pub some : earliest s waiting ≡ slots → ⊥
+  pub due : timeOf s (earliest s waiting) ≤ time
+
+pub timeout-passed : (s : Sender) (time : ℕ) (commit : Commit) (waiting : List ℕ) → isDone (timeoutAnswer s time commit waiting) ≡ true → TimeoutPassed s time waiting
+unfolding timeoutAnswer early numberOf
+timeout-passed s time commit waiting h =
+    let last = cond (early s time waiting) answer.Ignored answer.Done in
+    let p = stage-passed (not (goodSender s waiting)) answer.State (cond (not (roomy waiting)) answer.Room (cond (not (goodTime time && goodCommit commit)) answer.Range last)) refl h in
+    let q = stage-passed (not (roomy waiting)) answer.Room (cond (not (goodTime time && goodCommit commit)) answer.Range last) refl (p .1) in
+    let r = stage-passed (not (goodTime time && goodCommit commit)) answer.Range last refl (q .1) in
+    let t = stage-passed (early s time waiting) answer.Ignored answer.Done refl (r .1) in
+    let u = neither (eqb (earliest s waiting) slots) (ltb time (timeOf s (earliest s waiting))) (t .0) in
+    record { good = not-false _ (p .0); room = not-false _ (q .0); some = eqb-false _ _ (u .0); due = ltb-false _ _ (u .1) }
+
+pub timeout-done : (s : Sender) (time : ℕ) (commit : Commit) (waiting : List ℕ) → goodTime time && goodCommit commit ≡ true → TimeoutPassed s time waiting → isDone (timeoutAnswer s time commit waiting) ≡ true
+unfolding timeoutAnswer early numberOf
+timeout-done s time commit waiting h p =
+    rw (p .good, p .room, h, ne-eqb (earliest s waiting) slots (p .some), le-ltb time (timeOf s (earliest s waiting)) (p .due))
+
+pub timeout-answer : (s : Sender) (time : ℕ) (commit : Commit) (waiting : List ℕ) → isDone (timeoutOf s time commit waiting .answer) ≡ isDone (timeoutAnswer s time commit waiting)
+unfolding timeoutOf released numberOf
+timeout-answer s time commit waiting = go (isDone (timeoutAnswer s time commit waiting)) refl
+  where
+    go : (b : Bool) → isDone (timeoutAnswer s time commit waiting) ≡ b → isDone (cond b (released s time commit waiting) (refusedTimeout (timeoutAnswer s time commit waiting) s) .answer) ≡ isDone (timeoutAnswer s time commit waiting)
+    go true e = sym e
+    go false e = refl
