@@ -232,12 +232,7 @@ impl Sender {
         let accepted = self.accepted;
         !(none_yet(accepted.epoch, accepted.round)
             | price::deviates(self.config, accepted.median, median)
-            | !report::newer(
-                accepted.epoch,
-                accepted.round,
-                commit.epoch,
-                commit.round,
-            ))
+            | !report::newer(accepted.epoch, accepted.round, commit.epoch, commit.round))
     }
 
     // 20, which cannot occur beyond the last stage.
