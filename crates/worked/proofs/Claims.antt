@@ -1,11 +1,12 @@
--- Each row computes.
+-- Each row computes; the epoch program's run is computed a line at a time, in its own crate.
 use mathlib.Core.Path.{refl}
 use Rattle.config.specs.Codes.{numberOf}
 use Rattle.price.specs.Deviation.{deviates}
 use Rattle.quorum.specs.First.{firstAt}
 use Rattle.report.specs.Stands.{notFalling, listFault}
+use Rattle.epochline.proofs.Claims.{worked-run}
 use Rattle.worked.specs.Claims.{Worked}
 
 pub worked : Worked
 unfolding deviates numberOf listFault notFalling firstAt
-worked = refl
+worked = rw worked-run

@@ -12,6 +12,8 @@ use Rattle.price.specs.Median.{medianOf}
 use Rattle.frame.specs.Message.{Observation}
 use Rattle.report.specs.Faults.{codeOf}
 use Rattle.report.specs.Stands.{listFault}
+use Rattle.epochline.specs.Output.{outputOf}
+use Rattle.epochline.specs.Claims.{workedInput, workedOutput}
 
 -- what a row asks
 pub data Asked : Type 0 where
@@ -21,6 +23,8 @@ pub data Asked : Type 0 where
   leading : ℕ → ℕ → Asked
   -- with so many faulty, the median of a list of these values, of as many members
   median : ℕ → List ℤ → Asked
+  -- what the epoch program prints for this input
+  epochs : List ℕ → Asked
 
 -- what comes out
 pub data Outcome : Type 0 where
@@ -28,6 +32,7 @@ pub data Outcome : Type 0 where
   member : ℕ → Outcome
   price : ℤ → Outcome
   refusal : ℕ → Outcome
+  prints : List ℕ → Outcome
 
 -- a configuration of four members, one of whom may be faulty, with this alpha
 abbrev pub four : ℕ → Config
@@ -45,6 +50,7 @@ outcome (leading n epoch) = member (leaderOf n epoch)
 outcome (median f values) =
     let wrong = listFault f (numbered 1 values) in
     cond (isDone (codeOf wrong)) (price (medianOf values)) (refusal (numberOf (codeOf wrong)))
+outcome (epochs input) = prints (outputOf input)
 
 pub record Row : Type 0 where
   pub asked : Asked
@@ -56,6 +62,7 @@ row asked says = record { asked = asked; says = says }
 -- "Alpha 5,000,000: 20,000 to 20,100 no, to 20,101 yes; −200 to −201 no, to −202 yes; 0 to 0 no, 0 to 1 yes; −2^63 to 2^63−1 yes."
 -- "With n = 4: e = 1 gives 2, e = 3 gives 4, e = 4 gives 1."
 -- "Medians, n = 4, f = 1: 100, 105, 9000 gives 105; 100, 105, 107, 9000 gives 107; 100, 9000 is FEW."
+-- "Input: `4 1 3`, `S`, `N 2 7`, `N 4 6`, `N 3 5`, `P`, one a line. Whole output: .."
 abbrev pub table : List Row
 table =
     row (deviation 5000000 (pos 20000) (pos 20100)) (deviating false)
@@ -71,4 +78,5 @@ table =
     ∷ row (median 1 (pos 100 ∷ pos 105 ∷ pos 9000 ∷ [])) (price (pos 105))
     ∷ row (median 1 (pos 100 ∷ pos 105 ∷ pos 107 ∷ pos 9000 ∷ [])) (price (pos 107))
     ∷ row (median 1 (pos 100 ∷ pos 9000 ∷ [])) (refusal 14)
+    ∷ row (epochs workedInput) (prints workedOutput)
     ∷ []

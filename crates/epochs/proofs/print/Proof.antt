@@ -1,0 +1,13 @@
+-- `epochs::print` is safe: what is printed lies within the buffer.
+use mathlib.Core.Path.{sym}
+use native.Mathlib.Omega.{arith}
+use lib.Seq.{length-take-le}
+use borrow.Author.Needs.{needs}
+use Rattle.epochs.proofs.print.Statement.{statement}
+use Rattle.epochs.proofs.print.Tie as tie
+
+slice-aggregate-write-all : tie.Need-slice-aggregate-write-all
+slice-aggregate-write-all c = let a = c .before .before .before .args in sym (length-take-le (a .written) (a .out .now) (omega arith))
+
+pub print-spec : {M : Type 1} → statement M
+print-spec = tie.close (tie.spec (λ c. search needs) slice-aggregate-write-all (λ c κs. search needs) (λ c. search needs))
