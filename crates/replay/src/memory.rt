@@ -1,0 +1,59 @@
+// What a script works on, in one array of bytes: the images of node, sender and contract, and behind them the buffers, each with room for
+// its longest.
+use crate::image;
+use crate::lines;
+ghost use Prim.Native.Nat.{_+_, _≤_};
+ghost use lib.ListN.{length};
+
+// The room of each buffer.
+pub const OUTBOX: usize = 8192;
+
+pub const KEPT: usize = 4096;
+
+pub const SIGNATURES: usize = 8192;
+
+pub const WAITING: usize = 40960;
+
+// Where each image and each buffer begins.
+pub const NODE_AT: usize = 0;
+
+pub const SENDER_AT: usize = NODE_AT + image::NODE;
+
+pub const CONTRACT_AT: usize = SENDER_AT + image::SENDER;
+
+pub const OUTBOX_AT: usize = CONTRACT_AT + image::CONTRACT;
+
+pub const KEPT_AT: usize = OUTBOX_AT + OUTBOX;
+
+pub const SIGNATURES_AT: usize = KEPT_AT + KEPT;
+
+pub const WAITING_AT: usize = SIGNATURES_AT + SIGNATURES;
+
+pub const SIZE: usize = WAITING_AT + WAITING;
+
+// How long each buffer is.
+pub struct Lengths {
+    pub outbox: usize,
+    pub kept: usize,
+    pub signatures: usize,
+    pub waiting: usize,
+}
+
+// Writes an image of so many bytes at its place; false where there are more bytes, or fewer.
+pub fn put(bytes: &mut [u8], at: usize, size: usize, image: &[u8]) -> bool
+    requires { ⌜ at + size ≤ length (now bytes) ⌝ }
+{
+    if image.len() != size {
+        return false;
+    }
+    wire::copy(bytes, at, image, 0, size);
+    true
+}
+
+// What stands at a place becomes this; what has changed is printed.
+pub fn settle(bytes: &mut [u8], letter: u8, at: usize, after: &[u8])
+    requires { ⌜ at + length (now after) ≤ length (now bytes) ⌝ }
+{
+    lines::changes(letter, &bytes[..], at, after);
+    wire::copy(bytes, at, after, 0, after.len());
+}

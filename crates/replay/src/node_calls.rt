@@ -1,0 +1,272 @@
+// The calls of a node.
+use crate::image;
+use crate::lines;
+use crate::memory;
+use config::Saved;
+use memory::Lengths;
+use node::Fired;
+use node::Made;
+use node::Node;
+use node::Outcome;
+ghost use Prim.Native.Nat.{_≤_};
+ghost use lib.ListN.{length};
+ghost use Rattle.replay.specs.Memory.{memorySize, outboxRoom, keptRoom, signaturesRoom, Within};
+ghost use Rattle.replay.specs.Records.{startSize, deliverySize, timerSize};
+
+// The bytes of each record; of a delivery, those before its frame.
+const RESTORE: usize = image::CONFIG + 8;
+
+const START: usize = 16;
+
+const DELIVERY: usize = 33 + image::COMMIT;
+
+const TIMER: usize = 17;
+
+// By the letter; false where the record is not as long as the letter's.
+pub fn call(bytes: &mut [u8], lengths: Lengths, letter: u8, said: &[u8]) -> bool
+    requires { ⌜ (memorySize ≤ length (now bytes)) × Within lengths ⌝ }
+{
+    match letter {
+        b'F' => fresh(bytes, said),
+        b'R' => restore(bytes, said),
+        b'S' => start(bytes, lengths, said),
+        b'D' => deliver(bytes, lengths, said),
+        _ => timer(bytes, lengths, said),
+    }
+}
+
+fn fresh(bytes: &mut [u8], said: &[u8]) -> bool
+    requires { ⌜ memorySize ≤ length (now bytes) ⌝ }
+{
+    if said.len() != image::CONFIG {
+        return false;
+    }
+    made(bytes, b'F', Node::fresh(image::config_at(said, 0)));
+    true
+}
+
+fn restore(bytes: &mut [u8], said: &[u8]) -> bool
+    requires { ⌜ memorySize ≤ length (now bytes) ⌝ }
+{
+    if said.len() != RESTORE {
+        return false;
+    }
+    let config = image::config_at(said, 0);
+    let saved = Saved {
+        epoch: wire::get_u32(said, image::CONFIG),
+        highest: wire::get_u32(said, image::CONFIG + 4),
+    };
+    made(bytes, b'R', Node::restore(config, saved));
+    true
+}
+
+// A node that was made takes the place of the one before.
+fn made(bytes: &mut [u8], letter: u8, made: Made)
+    requires { ⌜ memorySize ≤ length (now bytes) ⌝ }
+{
+    let answer = made.answer;
+    lines::begin(letter, answer);
+    settle(bytes, made.node);
+    lines::end();
+}
+
+fn settle(bytes: &mut [u8], node: Node)
+    requires { ⌜ memorySize ≤ length (now bytes) ⌝ }
+{
+    let mut after = [0u8; image::NODE];
+    image::put_node(&mut after, node);
+    memory::settle(bytes, b'n', memory::NODE_AT, &after);
+}
+
+// A node's answer and results, and the node.
+fn came(bytes: &mut [u8], letter: u8, outcome: Outcome)
+    requires { ⌜ memorySize ≤ length (now bytes) ⌝ }
+{
+    let answer = outcome.answer;
+    lines::begin(letter, answer);
+    lines::outcome(outcome);
+    settle(bytes, outcome.node);
+}
+
+fn start(bytes: &mut [u8], lengths: Lengths, said: &[u8]) -> bool
+    requires { ⌜ (memorySize ≤ length (now bytes)) × Within lengths ⌝ }
+{
+    if said.len() != START {
+        return false;
+    }
+    let o = lengths.outbox;
+    let mut outbox = [0u8; memory::OUTBOX];
+    wire::copy(&mut outbox, 0, &bytes[..], memory::OUTBOX_AT, o);
+    starting(bytes, lengths, said, &mut outbox[..o]);
+    true
+}
+
+fn starting(bytes: &mut [u8], lengths: Lengths, said: &[u8], outbox: &mut [u8])
+    requires { ⌜ (memorySize ≤ length (now bytes)) × Within lengths × (startSize ≤ length (now said)) × (length (now outbox) ≤ outboxRoom) ⌝ }
+{
+    let outcome = started(&bytes[..], lengths, said, outbox);
+    came(bytes, b'S', outcome);
+    memory::settle(bytes, b'o', memory::OUTBOX_AT, &outbox[..]);
+    lines::end();
+}
+
+fn started(bytes: &[u8], lengths: Lengths, said: &[u8], outbox: &mut [u8]) -> Outcome
+    requires { ⌜ (memorySize ≤ length (now bytes)) × Within lengths × (startSize ≤ length (now said)) ⌝ }
+{
+    let kept = memory::KEPT_AT + lengths.kept;
+    let signatures = memory::SIGNATURES_AT + lengths.signatures;
+    let node = image::node_at(bytes, memory::NODE_AT);
+    node.start(
+        wire::get_u64(said, 0),
+        outbox,
+        wire::get_u64(said, 8) as usize,
+        &bytes[memory::KEPT_AT..kept],
+        &bytes[memory::SIGNATURES_AT..signatures],
+    )
+}
+
+fn deliver(bytes: &mut [u8], lengths: Lengths, said: &[u8]) -> bool
+    requires { ⌜ (memorySize ≤ length (now bytes)) × Within lengths ⌝ }
+{
+    if said.len() < DELIVERY {
+        return false;
+    }
+    let o = lengths.outbox;
+    let mut outbox = [0u8; memory::OUTBOX];
+    wire::copy(&mut outbox, 0, &bytes[..], memory::OUTBOX_AT, o);
+    let k = lengths.kept;
+    let mut kept = [0u8; memory::KEPT];
+    wire::copy(&mut kept, 0, &bytes[..], memory::KEPT_AT, k);
+    let g = lengths.signatures;
+    let mut signatures = [0u8; memory::SIGNATURES];
+    wire::copy(&mut signatures, 0, &bytes[..], memory::SIGNATURES_AT, g);
+    delivering(
+        bytes,
+        said,
+        &mut outbox[..o],
+        &mut kept[..k],
+        &mut signatures[..g],
+    );
+    true
+}
+
+fn delivering(
+    bytes: &mut [u8],
+    said: &[u8],
+    outbox: &mut [u8],
+    kept: &mut [u8],
+    signatures: &mut [u8],
+)
+    requires { ⌜ (memorySize ≤ length (now bytes)) × (deliverySize ≤ length (now said)) × (length (now outbox) ≤ outboxRoom) × (length (now kept) ≤ keptRoom) × (length (now signatures) ≤ signaturesRoom) ⌝ }
+{
+    let outcome = delivered(&bytes[..], said, outbox, kept, signatures);
+    came(bytes, b'D', outcome);
+    settle_buffers(bytes, &outbox[..], &kept[..], &signatures[..]);
+    lines::end();
+}
+
+fn settle_buffers(bytes: &mut [u8], outbox: &[u8], kept: &[u8], signatures: &[u8])
+    requires { ⌜ (memorySize ≤ length (now bytes)) × (length (now outbox) ≤ outboxRoom) × (length (now kept) ≤ keptRoom) × (length (now signatures) ≤ signaturesRoom) ⌝ }
+{
+    memory::settle(bytes, b'o', memory::OUTBOX_AT, outbox);
+    memory::settle(bytes, b'k', memory::KEPT_AT, kept);
+    memory::settle(bytes, b'g', memory::SIGNATURES_AT, signatures);
+}
+
+fn delivered(
+    bytes: &[u8],
+    said: &[u8],
+    outbox: &mut [u8],
+    kept: &mut [u8],
+    signatures: &mut [u8],
+) -> Outcome
+    requires { ⌜ (memorySize ≤ length (now bytes)) × (deliverySize ≤ length (now said)) ⌝ }
+{
+    let node = image::node_at(bytes, memory::NODE_AT);
+    node.deliver(
+        said[0],
+        wire::get_u64(said, 1),
+        wire::get_i64(said, 9),
+        image::commit_at(said, 17),
+        wire::get_u64(said, 38),
+        &said[DELIVERY..],
+        outbox,
+        wire::get_u64(said, 46) as usize,
+        kept,
+        signatures,
+    )
+}
+
+fn timer(bytes: &mut [u8], lengths: Lengths, said: &[u8]) -> bool
+    requires { ⌜ (memorySize ≤ length (now bytes)) × Within lengths ⌝ }
+{
+    if said.len() != TIMER {
+        return false;
+    }
+    match said[0] {
+        0 => fires(bytes, lengths, said, Fired::Resend),
+        1 => fires(bytes, lengths, said, Fired::Progress),
+        2 => fires(bytes, lengths, said, Fired::Round),
+        3 => fires(bytes, lengths, said, Fired::Grace),
+        _ => false,
+    }
+}
+
+fn fires(bytes: &mut [u8], lengths: Lengths, said: &[u8], fired: Fired) -> bool
+    requires { ⌜ (memorySize ≤ length (now bytes)) × Within lengths × (timerSize ≤ length (now said)) ⌝ }
+{
+    let o = lengths.outbox;
+    let mut outbox = [0u8; memory::OUTBOX];
+    wire::copy(&mut outbox, 0, &bytes[..], memory::OUTBOX_AT, o);
+    let g = lengths.signatures;
+    let mut signatures = [0u8; memory::SIGNATURES];
+    wire::copy(&mut signatures, 0, &bytes[..], memory::SIGNATURES_AT, g);
+    firing(
+        bytes,
+        lengths,
+        said,
+        fired,
+        &mut outbox[..o],
+        &mut signatures[..g],
+    );
+    true
+}
+
+fn firing(
+    bytes: &mut [u8],
+    lengths: Lengths,
+    said: &[u8],
+    fired: Fired,
+    outbox: &mut [u8],
+    signatures: &mut [u8],
+)
+    requires { ⌜ (memorySize ≤ length (now bytes)) × Within lengths × (timerSize ≤ length (now said)) × (length (now outbox) ≤ outboxRoom) × (length (now signatures) ≤ signaturesRoom) ⌝ }
+{
+    let outcome = timed(&bytes[..], lengths, said, fired, outbox, signatures);
+    came(bytes, b'T', outcome);
+    memory::settle(bytes, b'o', memory::OUTBOX_AT, &outbox[..]);
+    memory::settle(bytes, b'g', memory::SIGNATURES_AT, &signatures[..]);
+    lines::end();
+}
+
+fn timed(
+    bytes: &[u8],
+    lengths: Lengths,
+    said: &[u8],
+    fired: Fired,
+    outbox: &mut [u8],
+    signatures: &mut [u8],
+) -> Outcome
+    requires { ⌜ (memorySize ≤ length (now bytes)) × Within lengths × (timerSize ≤ length (now said)) ⌝ }
+{
+    let end = memory::KEPT_AT + lengths.kept;
+    let node = image::node_at(bytes, memory::NODE_AT);
+    node.timer(
+        fired,
+        wire::get_u64(said, 1),
+        outbox,
+        wire::get_u64(said, 9) as usize,
+        &bytes[memory::KEPT_AT..end],
+        signatures,
+    )
+}
