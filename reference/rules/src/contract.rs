@@ -38,10 +38,7 @@ impl Contract {
         for account in &self.accounts {
             sum += account.balance as u128 + account.paid as u128;
         }
-        self.terms.is_good()
-            && self.commit.in_range()
-            && self.deposits <= MAX_DEPOSITS
-            && sum <= self.deposits as u128
+        self.terms.is_good() && self.commit.in_range() && self.deposits <= MAX_DEPOSITS && sum <= self.deposits as u128
     }
 
     pub fn read(reader: &mut Reader) -> Contract {

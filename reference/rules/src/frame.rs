@@ -221,11 +221,7 @@ impl Message {
                 let m = reader.u8() as usize;
                 let mut list = Vec::new();
                 for _ in 0..m {
-                    list.push(SignedObserved {
-                        member: reader.u8(),
-                        value: reader.i64(),
-                        signature: reader.bytes(),
-                    });
+                    list.push(SignedObserved { member: reader.u8(), value: reader.i64(), signature: reader.bytes() });
                 }
                 Message::ReportReq { epoch, round, list }
             }

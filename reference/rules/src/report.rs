@@ -20,9 +20,7 @@ pub fn deviates(alpha: u32, old: i64, new: i64) -> bool {
 /// Delta_C has passed (nothing, if the clock is behind the commit)".
 pub fn should_report(config: &Config, commit: &Commit, now: u64, median: i64) -> bool {
     let passed = if now < commit.time { 0 } else { now - commit.time };
-    (commit.epoch == 0 && commit.round == 0)
-        || deviates(config.alpha, commit.median, median)
-        || passed > config.delta_c
+    (commit.epoch == 0 && commit.round == 0) || deviates(config.alpha, commit.median, median) || passed > config.delta_c
 }
 
 /// Whether bit i is set.

@@ -306,17 +306,19 @@ fn bounds(builder: &mut Builder, rng: &mut Rng) {
     }
     all[6].with(|d| resize(d, 255, 255, 0)).must(builder, Code::Range, "the largest counts");
     // Two faults within the frame.
-    all[5].with(|d| {
-        d.body[4] = 0;
-        d.body[5] = 9;
-    })
-    .must(builder, Code::Length, "8 before 9");
-    all[5].with(|d| {
-        d.body[4] = 0;
-        d.bits = 0;
-        d.node.round = 7;
-    })
-    .must(builder, Code::Range, "9 before 1, 10");
+    all[5]
+        .with(|d| {
+            d.body[4] = 0;
+            d.body[5] = 9;
+        })
+        .must(builder, Code::Length, "8 before 9");
+    all[5]
+        .with(|d| {
+            d.body[4] = 0;
+            d.bits = 0;
+            d.node.round = 7;
+        })
+        .must(builder, Code::Range, "9 before 1, 10");
 }
 
 /// Damage to each byte of the trailer and each length of the frame.
@@ -331,7 +333,7 @@ fn damage(builder: &mut Builder, rng: &mut Rng) {
                 damaged[trailer_at + k] ^= flip;
                 // Another kind may have the same length (6 and 7): then the rule decides.
                 builder.node(&base.node);
-                        builder.deliver(&base.arrival_of(damaged));
+                builder.deliver(&base.arrival_of(damaged));
             }
         }
         // The body length one less and one more, and far off.
@@ -403,8 +405,22 @@ fn newepochs(builder: &mut Builder, rng: &mut Rng) {
     must(send(builder, 2, 7), Code::Ignored, "before Start");
     builder.start(5, 0);
     for (from, epoch) in [
-        (2, 7), (4, 6), (3, 5), (3, 5), (3, 6), (1, 1), (1, 9), (2, 9), (2, 8), (4, 9), (3, 10), (3, LAST_EPOCH),
-        (1, LAST_EPOCH), (2, 20), (4, LAST_EPOCH), (4, 1),
+        (2, 7),
+        (4, 6),
+        (3, 5),
+        (3, 5),
+        (3, 6),
+        (1, 1),
+        (1, 9),
+        (2, 9),
+        (2, 8),
+        (4, 9),
+        (3, 10),
+        (3, LAST_EPOCH),
+        (1, LAST_EPOCH),
+        (2, 20),
+        (4, LAST_EPOCH),
+        (4, 1),
     ] {
         must(send(builder, from, epoch), Code::Done, "NEWEPOCH");
     }
@@ -417,7 +433,8 @@ fn newepochs(builder: &mut Builder, rng: &mut Rng) {
             let mut order = rng.members(n);
             order.extend(rng.members(n));
             for from in order {
-                let epoch = rng.pick(&[1, 2, 3, 4, 5, 6, 7, 8, own as u32 + n as u32 - 1, own as u32 + 2 * n as u32 - 1]);
+                let epoch =
+                    rng.pick(&[1, 2, 3, 4, 5, 6, 7, 8, own as u32 + n as u32 - 1, own as u32 + 2 * n as u32 - 1]);
                 must(send(builder, from, epoch), Code::Done, "NEWEPOCH");
             }
         }
@@ -515,20 +532,34 @@ fn conditions(builder: &mut Builder, rng: &mut Rng) {
     // From another than the leader.
     for k in [1, 3, 5] {
         for from in [1, 3, 4] {
-            all[k].with(|d| {
-                d.sender = from;
-                d.link = from;
-            })
-            .must(builder, Code::Ignored, "not the leader");
+            all[k]
+                .with(|d| {
+                    d.sender = from;
+                    d.link = from;
+                })
+                .must(builder, Code::Ignored, "not the leader");
         }
     }
     // OBSERVE-REQ by round, own round, r_max.
     let request = &all[1];
     for (own_round, r_max, round, code) in [
-        (0, 3, 1, Code::Done), (0, 3, 3, Code::Done), (0, 3, 4, Code::Done), (0, 3, 5, Code::Done), (0, 3, 255, Code::Done),
-        (2, 3, 2, Code::Ignored), (3, 3, 3, Code::Ignored), (3, 3, 4, Code::Done), (4, 3, 4, Code::Ignored),
-        (4, 3, 5, Code::Done), (255, 3, 255, Code::Ignored), (254, 254, 255, Code::Done), (253, 254, 254, Code::Done),
-        (0, 1, 1, Code::Done), (0, 1, 2, Code::Done), (1, 1, 2, Code::Done), (0, 254, 254, Code::Done),
+        (0, 3, 1, Code::Done),
+        (0, 3, 3, Code::Done),
+        (0, 3, 4, Code::Done),
+        (0, 3, 5, Code::Done),
+        (0, 3, 255, Code::Done),
+        (2, 3, 2, Code::Ignored),
+        (3, 3, 3, Code::Ignored),
+        (3, 3, 4, Code::Done),
+        (4, 3, 4, Code::Ignored),
+        (4, 3, 5, Code::Done),
+        (255, 3, 255, Code::Ignored),
+        (254, 254, 255, Code::Done),
+        (253, 254, 254, Code::Done),
+        (0, 1, 1, Code::Done),
+        (0, 1, 2, Code::Done),
+        (1, 1, 2, Code::Done),
+        (0, 254, 254, Code::Done),
     ] {
         request
             .with(|d| {
@@ -653,22 +684,55 @@ fn conditions(builder: &mut Builder, rng: &mut Rng) {
         made.must(builder, Code::Done, "a deviation");
     };
     for (alpha, old, new) in [
-        (5_000_000, 20_000, 20_100), (5_000_000, 20_000, 20_101), (5_000_000, -200, -201), (5_000_000, -200, -202),
-        (5_000_000, 0, 0), (5_000_000, 0, 1), (5_000_000, i64::MIN, i64::MAX), (1_000_000_000, 1, 0),
-        (1_000_000_000, 0, 1), (1_000_000_000, -1, 0), (1_000_000_000, 1, 2), (1_000_000_000, 1, 3),
-        (1_000_000_000, i64::MIN, 0), (1_000_000_000, i64::MIN, 1), (1_000_000_000, i64::MIN, -1),
-        (1_000_000_000, i64::MAX, -1), (1_000_000_000, i64::MAX, 0), (1_000_000_000, i64::MAX, i64::MIN),
-        (999_999_999, i64::MIN, 0), (0, 5, 5), (0, 5, 6), (0, i64::MIN, i64::MIN), (0, i64::MIN, i64::MIN + 1),
-        (1, i64::MAX, i64::MAX - 9_223_372_036), (1, i64::MAX, i64::MAX - 9_223_372_037), (0, 0, 0),
-        (1, i64::MIN, i64::MIN + 9_223_372_036), (1, i64::MIN, i64::MIN + 9_223_372_037), (1, 999_999_999, 1_000_000_000),
-        (1, 1_000_000_000, 1_000_000_001), (5_000_000, 20_000, 19_900), (5_000_000, 20_000, 19_899),
+        (5_000_000, 20_000, 20_100),
+        (5_000_000, 20_000, 20_101),
+        (5_000_000, -200, -201),
+        (5_000_000, -200, -202),
+        (5_000_000, 0, 0),
+        (5_000_000, 0, 1),
+        (5_000_000, i64::MIN, i64::MAX),
+        (1_000_000_000, 1, 0),
+        (1_000_000_000, 0, 1),
+        (1_000_000_000, -1, 0),
+        (1_000_000_000, 1, 2),
+        (1_000_000_000, 1, 3),
+        (1_000_000_000, i64::MIN, 0),
+        (1_000_000_000, i64::MIN, 1),
+        (1_000_000_000, i64::MIN, -1),
+        (1_000_000_000, i64::MAX, -1),
+        (1_000_000_000, i64::MAX, 0),
+        (1_000_000_000, i64::MAX, i64::MIN),
+        (999_999_999, i64::MIN, 0),
+        (0, 5, 5),
+        (0, 5, 6),
+        (0, i64::MIN, i64::MIN),
+        (0, i64::MIN, i64::MIN + 1),
+        (1, i64::MAX, i64::MAX - 9_223_372_036),
+        (1, i64::MAX, i64::MAX - 9_223_372_037),
+        (0, 0, 0),
+        (1, i64::MIN, i64::MIN + 9_223_372_036),
+        (1, i64::MIN, i64::MIN + 9_223_372_037),
+        (1, 999_999_999, 1_000_000_000),
+        (1, 1_000_000_000, 1_000_000_001),
+        (5_000_000, 20_000, 19_900),
+        (5_000_000, 20_000, 19_899),
     ] {
         medians(builder, alpha, old, new);
     }
     for (delta_c, committed, now) in [
-        (0, 5, 5), (0, 5, 6), (0, 6, 5), (60_000, 0, 60_000), (60_000, 0, 60_001), (60_000, 60_001, 0),
-        (TWO_53, 0, TWO_53), (TWO_53 - 1, 0, TWO_53), (TWO_53 - 1, 1, TWO_53), (0, TWO_53, 0), (0, TWO_53, TWO_53),
-        (0, 0, 1), (1, TWO_53 - 1, TWO_53),
+        (0, 5, 5),
+        (0, 5, 6),
+        (0, 6, 5),
+        (60_000, 0, 60_000),
+        (60_000, 0, 60_001),
+        (60_000, 60_001, 0),
+        (TWO_53, 0, TWO_53),
+        (TWO_53 - 1, 0, TWO_53),
+        (TWO_53 - 1, 1, TWO_53),
+        (0, TWO_53, 0),
+        (0, TWO_53, TWO_53),
+        (0, 0, 1),
+        (1, TWO_53 - 1, TWO_53),
     ] {
         report_req
             .with(|d| {
@@ -726,7 +790,12 @@ fn conditions(builder: &mut Builder, rng: &mut Rng) {
     let signatures = rng.bytes(SIGNATURES);
     builder.signatures(&signatures);
     for (reported, from) in [
-        ([0, 0, 0, 0], 4), ([1, 0, 0, 0], 4), ([0, 0, 1, 0], 2), ([0, 0, 0, 1], 1), ([1, 1, 1, 0], 4), ([0, 1, 1, 1], 1),
+        ([0, 0, 0, 0], 4),
+        ([1, 0, 0, 0], 4),
+        ([0, 0, 1, 0], 2),
+        ([0, 0, 0, 1], 1),
+        ([1, 1, 1, 0], 4),
+        ([0, 1, 1, 1], 1),
     ] {
         report
             .with(|d| {
@@ -739,9 +808,11 @@ fn conditions(builder: &mut Builder, rng: &mut Rng) {
     }
     must(builder.deliver(&report.arrival()), Code::Ignored, "finished");
     // A list at most 2f in a state that no run reaches.
-    other(&[(2, 100), (1, 105)])
-        .with(|d| d.node.observed[2] = 0)
-        .must(builder, Code::Done, "the same list, though short");
+    other(&[(2, 100), (1, 105)]).with(|d| d.node.observed[2] = 0).must(
+        builder,
+        Code::Done,
+        "the same list, though short",
+    );
 
     attested(builder, rng, &all[5], &all[6]);
 

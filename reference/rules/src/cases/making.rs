@@ -24,27 +24,50 @@ fn configurations() -> Vec<(bool, Config)> {
     // n with f 0 and one stage of 1.
     for n in [0, 1, 2, 3, 4, 30, 31, 32, 33, 127, 128, 255] {
         let good = 1 <= n && n <= 31;
-        add(good, edited(&base, |c| {
-            c.n = n;
-            c.f = 0;
-            c.own = 1;
-            c.stages = 1;
-            c.schedule[0] = 1;
-        }));
+        add(
+            good,
+            edited(&base, |c| {
+                c.n = n;
+                c.f = 0;
+                c.own = 1;
+                c.stages = 1;
+                c.schedule[0] = 1;
+            }),
+        );
     }
     // 3f < n.
     for (n, f, good) in [
-        (1, 0, true), (1, 1, false), (2, 0, true), (2, 1, false), (3, 0, true), (3, 1, false), (4, 1, true),
-        (4, 2, false), (6, 1, true), (6, 2, false), (7, 2, true), (7, 3, false), (30, 9, true), (30, 10, false),
-        (31, 10, true), (31, 11, false), (31, 85, false), (31, 86, false), (31, 255, false), (4, 86, false),
+        (1, 0, true),
+        (1, 1, false),
+        (2, 0, true),
+        (2, 1, false),
+        (3, 0, true),
+        (3, 1, false),
+        (4, 1, true),
+        (4, 2, false),
+        (6, 1, true),
+        (6, 2, false),
+        (7, 2, true),
+        (7, 3, false),
+        (30, 9, true),
+        (30, 10, false),
+        (31, 10, true),
+        (31, 11, false),
+        (31, 85, false),
+        (31, 86, false),
+        (31, 255, false),
+        (4, 86, false),
     ] {
-        add(good, edited(&base, |c| {
-            c.n = n;
-            c.f = f;
-            c.own = 1;
-            c.stages = 1;
-            c.schedule[0] = n;
-        }));
+        add(
+            good,
+            edited(&base, |c| {
+                c.n = n;
+                c.f = f;
+                c.own = 1;
+                c.stages = 1;
+                c.schedule[0] = n;
+            }),
+        );
     }
     for (own, good) in [(0, false), (1, true), (4, true), (5, false), (31, false), (32, false), (255, false)] {
         add(good, edited(&base, |c| c.own = own));
@@ -53,20 +76,39 @@ fn configurations() -> Vec<(bool, Config)> {
         add(good, edited(&base, |c| c.r_max = r_max));
     }
     for (alpha, good) in [
-        (0, true), (1, true), (999_999_999, true), (1_000_000_000, true), (1_000_000_001, false), (1 << 31, false),
+        (0, true),
+        (1, true),
+        (999_999_999, true),
+        (1_000_000_000, true),
+        (1_000_000_001, false),
+        (1 << 31, false),
         (u32::MAX, false),
     ] {
         add(good, edited(&base, |c| c.alpha = alpha));
     }
     for (time, good) in [
-        (0, true), (1, true), (u32::MAX as u64, true), (1 << 32, true), (TWO_53 - 1, true), (TWO_53, true),
-        (TWO_53 + 1, false), (1 << 63, false), (u64::MAX, false),
+        (0, true),
+        (1, true),
+        (u32::MAX as u64, true),
+        (1 << 32, true),
+        (TWO_53 - 1, true),
+        (TWO_53, true),
+        (TWO_53 + 1, false),
+        (1 << 63, false),
+        (u64::MAX, false),
     ] {
         add(good, edited(&base, |c| c.delta_c = time));
     }
     for (time, good) in [
-        (0, true), (1, true), (86_399_999, true), (86_400_000, true), (86_400_001, false), (1 << 32, false),
-        (TWO_53, false), (1 << 63, false), (u64::MAX, false),
+        (0, true),
+        (1, true),
+        (86_399_999, true),
+        (86_400_000, true),
+        (86_400_001, false),
+        (1 << 32, false),
+        (TWO_53, false),
+        (1 << 63, false),
+        (u64::MAX, false),
     ] {
         add(good, edited(&base, |c| c.delta_stage = time));
     }
@@ -102,10 +144,13 @@ fn configurations() -> Vec<(bool, Config)> {
         (9, [1, 1, 1, 1, 1, 1, 1, 1], false),
         (255, [1, 1, 1, 1, 1, 1, 1, 1], false),
     ] {
-        add(good, edited(&ten, |c| {
-            c.stages = stages;
-            c.schedule = schedule;
-        }));
+        add(
+            good,
+            edited(&ten, |c| {
+                c.stages = stages;
+                c.schedule = schedule;
+            }),
+        );
     }
     add(false, Config::default());
     out
@@ -115,14 +160,31 @@ fn all_terms() -> Vec<(bool, Terms)> {
     let base = terms(4, 1);
     let mut out = vec![(true, base.clone())];
     for (n, f, good) in [
-        (0, 0, false), (1, 0, true), (1, 1, false), (3, 1, false), (4, 1, true), (4, 2, false), (31, 10, true),
-        (31, 11, false), (32, 0, false), (32, 10, false), (255, 1, false), (31, 86, false), (7, 255, false),
+        (0, 0, false),
+        (1, 0, true),
+        (1, 1, false),
+        (3, 1, false),
+        (4, 1, true),
+        (4, 2, false),
+        (31, 10, true),
+        (31, 11, false),
+        (32, 0, false),
+        (32, 10, false),
+        (255, 1, false),
+        (31, 86, false),
+        (7, 255, false),
     ] {
         out.push((good, Terms { n, f, ..base.clone() }));
     }
     for (fee, good) in [
-        (0, true), (1, true), (1_000_000_000, true), (1_000_000_001, false), (u32::MAX as u64, false), (TWO_53, false),
-        (1 << 63, false), (u64::MAX, false),
+        (0, true),
+        (1, true),
+        (1_000_000_000, true),
+        (1_000_000_001, false),
+        (u32::MAX as u64, false),
+        (TWO_53, false),
+        (1 << 63, false),
+        (u64::MAX, false),
     ] {
         out.push((good, Terms { observation_fee: fee, ..base.clone() }));
         out.push((good, Terms { sending_fee: fee, ..base.clone() }));
@@ -159,15 +221,24 @@ pub fn cases(builder: &mut Builder) {
     builder.lent(&lent());
     let good = config(4, 1, 3);
     for (epoch, highest_sent) in [
-        (0, 0), (0, 1), (1, 1), (5, 5), (5, 6), (5, 1000), (LAST_EPOCH - 1, LAST_EPOCH), (LAST_EPOCH, LAST_EPOCH),
-        (0, LAST_EPOCH), (1, 0), (5, 4), (LAST_EPOCH, LAST_EPOCH - 1), (LAST_EPOCH, 0), (256, 255), (65536, 1),
+        (0, 0),
+        (0, 1),
+        (1, 1),
+        (5, 5),
+        (5, 6),
+        (5, 1000),
+        (LAST_EPOCH - 1, LAST_EPOCH),
+        (LAST_EPOCH, LAST_EPOCH),
+        (0, LAST_EPOCH),
+        (1, 0),
+        (5, 4),
+        (LAST_EPOCH, LAST_EPOCH - 1),
+        (LAST_EPOCH, 0),
+        (256, 255),
+        (65536, 1),
     ] {
         let kept = highest_sent >= epoch;
-        must(
-            builder.restore(&good, epoch, highest_sent),
-            if kept { Code::Done } else { Code::State },
-            "restore",
-        );
+        must(builder.restore(&good, epoch, highest_sent), if kept { Code::Done } else { Code::State }, "restore");
         must(builder.start(7, 0), if kept { Code::Done } else { Code::State }, "start of a restored node");
     }
     for edit in [|c: &mut Config| c.n = 32, |c: &mut Config| c.alpha = u32::MAX, |c: &mut Config| c.stages = 9] {

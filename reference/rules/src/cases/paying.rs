@@ -160,7 +160,9 @@ pub fn cases(builder: &mut Builder, rng: &mut Rng) {
             must(builder.submit(1, 5, ALL, &other), Code::Length, "counts and the length");
         }
     }
-    for (place, byte) in [(4, 0), (6, 0), (6, 5), (24, 0), (24, 5), (24, 255), (34, 0), (34, 5), (99, 0), (99, 5), (99, 31)] {
+    for (place, byte) in
+        [(4, 0), (6, 0), (6, 5), (24, 0), (24, 5), (24, 255), (34, 0), (34, 5), (99, 0), (99, 5), (99, 31)]
+    {
         let mut other = body.clone();
         other[place] = byte;
         must(builder.submit(1, 5, ALL, &other), Code::Range, "body");
@@ -183,8 +185,13 @@ pub fn cases(builder: &mut Builder, rng: &mut Rng) {
     }
     // OLD. Time may go backwards.
     for (epoch, round, code) in [
-        (5, 2, Code::Old), (5, 3, Code::Old), (6, 1, Code::Old), (LAST_EPOCH, 255, Code::Old), (5, 1, Code::Done),
-        (4, 255, Code::Done), (1, 1, Code::Done),
+        (5, 2, Code::Old),
+        (5, 3, Code::Old),
+        (6, 1, Code::Old),
+        (LAST_EPOCH, 255, Code::Old),
+        (5, 1, Code::Done),
+        (4, 255, Code::Done),
+        (1, 1, Code::Done),
     ] {
         base.with(|x| x.contract.commit = commit(epoch, round, -1, TWO_53)).must(builder, code, "OLD");
     }
@@ -203,7 +210,11 @@ pub fn cases(builder: &mut Builder, rng: &mut Rng) {
     reports(&[(1, 9), (2, 9), (1, 9)], &[1, 2]).must(builder, Code::Twice, "first and last");
     reports(&[(1, 0), (2, -1), (3, 1)], &[1, 2]).must(builder, Code::Order, "below 0");
     reports(&[(1, i64::MIN), (2, i64::MAX), (3, i64::MIN)], &[1, 2]).must(builder, Code::Order, "ends");
-    reports(&[(4, i64::MIN), (3, i64::MIN), (2, i64::MAX), (1, i64::MAX)], &[4, 3, 2, 1]).must(builder, Code::Done, "ends");
+    reports(&[(4, i64::MIN), (3, i64::MIN), (2, i64::MAX), (1, i64::MAX)], &[4, 3, 2, 1]).must(
+        builder,
+        Code::Done,
+        "ends",
+    );
     reports(&[(4, -5), (3, -5), (2, -5)], &[1]).must(builder, Code::Signers, "s is f");
     reports(&[(4, -5), (3, -5), (2, -5)], &[1, 1]).must(builder, Code::Signers, "a signer twice");
     reports(&[(4, -5), (3, -5), (2, -5)], &[1, 2, 3, 1]).must(builder, Code::Signers, "a signer twice");
@@ -222,8 +233,12 @@ pub fn cases(builder: &mut Builder, rng: &mut Rng) {
         base.with(|x| x.contract.fund = fund).must(builder, code, "cost 3 x 100 + 1000");
     }
     for (observation_fee, sending_fee, fund, code) in [
-        (0, 0, 0, Code::Done), (0, 1, 0, Code::Funds), (1, 0, 2, Code::Funds), (1, 0, 3, Code::Done),
-        (1_000_000_000, 1_000_000_000, 3_999_999_999, Code::Funds), (1_000_000_000, 1_000_000_000, 4_000_000_000, Code::Done),
+        (0, 0, 0, Code::Done),
+        (0, 1, 0, Code::Funds),
+        (1, 0, 2, Code::Funds),
+        (1, 0, 3, Code::Done),
+        (1_000_000_000, 1_000_000_000, 3_999_999_999, Code::Funds),
+        (1_000_000_000, 1_000_000_000, 4_000_000_000, Code::Done),
     ] {
         base.with(|x| {
             x.contract.terms = Terms { observation_fee, sending_fee, ..terms(4, 1) };
@@ -236,7 +251,9 @@ pub fn cases(builder: &mut Builder, rng: &mut Rng) {
     let entries: Vec<(u8, i64)> = (1..=31).rev().map(|j| (j, 7)).collect();
     let longest = final_body(rng, 1, 1, &entries, &(1..=31).collect::<Vec<u8>>());
     for (fund, bits, code) in [
-        (31_999_999_999, ALL, Code::Funds), (32_000_000_000, (1 << 31) - 1, Code::Done), (32_000_000_000, (1 << 30) - 1, Code::Signers),
+        (31_999_999_999, ALL, Code::Funds),
+        (32_000_000_000, (1 << 31) - 1, Code::Done),
+        (32_000_000_000, (1 << 30) - 1, Code::Signers),
     ] {
         base.with(|x| {
             x.contract = Contract { fund, deposits: TWO_53, ..Contract::default() };
@@ -262,9 +279,18 @@ pub fn cases(builder: &mut Builder, rng: &mut Rng) {
     // Deposits up to 2^53 together.
     builder.fresh_contract(&terms(4, 1));
     for (amount, code) in [
-        (0, Code::Done), (1, Code::Done), (TWO_53, Code::Range), (TWO_53 + 1, Code::Range), (1 << 63, Code::Range),
-        (u64::MAX, Code::Range), (u64::MAX - 1, Code::Range), (TWO_53 - 2, Code::Done), (2, Code::Range), (1, Code::Done),
-        (1, Code::Range), (0, Code::Done),
+        (0, Code::Done),
+        (1, Code::Done),
+        (TWO_53, Code::Range),
+        (TWO_53 + 1, Code::Range),
+        (1 << 63, Code::Range),
+        (u64::MAX, Code::Range),
+        (u64::MAX - 1, Code::Range),
+        (TWO_53 - 2, Code::Done),
+        (2, Code::Range),
+        (1, Code::Done),
+        (1, Code::Range),
+        (0, Code::Done),
     ] {
         must(builder.deposit(amount), code, "deposit");
     }

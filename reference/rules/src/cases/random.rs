@@ -605,7 +605,10 @@ fn node_episode(builder: &mut Builder, rng: &mut Rng, buffers: u64, calls: u64) 
     } else {
         let mut made = node(rng);
         let lent = &builder.machine.lent;
-        if rng.once_in(buffers) || lent.kept.len() < SLOT || lent.outbox.len() < OUTBOX || lent.signatures.len() < SIGNATURES
+        if rng.once_in(buffers)
+            || lent.kept.len() < SLOT
+            || lent.outbox.len() < OUTBOX
+            || lent.signatures.len() < SIGNATURES
         {
             set_buffers(builder, rng, buffers);
         }

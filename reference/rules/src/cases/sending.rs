@@ -212,7 +212,16 @@ pub fn cases(builder: &mut Builder, rng: &mut Rng) {
 
     // LENGTH and RANGE of the body. A free slot's bytes are any.
     let range: [(usize, u8); 11] = [
-        (4, 0), (6, 0), (6, 5), (6 + 18, 0), (6 + 18, 255), (33 + 1, 0), (33 + 1, 5), (33 + 66, 0), (33 + 66, 5), (33 + 66, 31),
+        (4, 0),
+        (6, 0),
+        (6, 5),
+        (6 + 18, 0),
+        (6 + 18, 255),
+        (33 + 1, 0),
+        (33 + 1, 5),
+        (33 + 66, 0),
+        (33 + 66, 5),
+        (33 + 66, 31),
         (33 + 66, 32),
     ];
     for (place, byte) in range {
@@ -244,15 +253,32 @@ pub fn cases(builder: &mut Builder, rng: &mut Rng) {
     }
     // Permutations.
     for permutation in [
-        vec![], vec![1], vec![1, 2, 3], vec![1, 2, 3, 4, 5], vec![1, 2, 3, 4, 4], vec![1, 2, 3, 3], vec![0, 1, 2, 3],
-        vec![2, 3, 4, 5], vec![1, 2, 3, 255], vec![4; 4], vec![0; 4], vec![1; 255], (1..=31).collect(),
+        vec![],
+        vec![1],
+        vec![1, 2, 3],
+        vec![1, 2, 3, 4, 5],
+        vec![1, 2, 3, 4, 4],
+        vec![1, 2, 3, 3],
+        vec![0, 1, 2, 3],
+        vec![2, 3, 4, 5],
+        vec![1, 2, 3, 255],
+        vec![4; 4],
+        vec![0; 4],
+        vec![1; 255],
+        (1..=31).collect(),
     ] {
         base.with(|t| t.permutation = permutation).must(builder, Code::Config, "no permutation");
     }
     // OLD: against the commit and the accepted one.
     for (epoch, round, code) in [
-        (5, 20, Code::Old), (5, 21, Code::Old), (6, 1, Code::Old), (LAST_EPOCH, 255, Code::Old), (5, 19, Code::Done),
-        (4, 255, Code::Done), (0, 0, Code::Done), (1, 1, Code::Done),
+        (5, 20, Code::Old),
+        (5, 21, Code::Old),
+        (6, 1, Code::Old),
+        (LAST_EPOCH, 255, Code::Old),
+        (5, 19, Code::Done),
+        (4, 255, Code::Done),
+        (0, 0, Code::Done),
+        (1, 1, Code::Done),
     ] {
         base.with(|t| t.commit = commit(epoch, round, 0, 0)).must(builder, code, "OLD by the commit");
         base.with(|t| {
@@ -262,11 +288,17 @@ pub fn cases(builder: &mut Builder, rng: &mut Rng) {
         .must(builder, code, "OLD by the accepted one");
     }
     // SIMILAR: deviation and commits.
-    for (accepted, code) in [(105, Code::Similar), (104, Code::Done), (106, Code::Done), (-105, Code::Done), (0, Code::Done)] {
+    for (accepted, code) in
+        [(105, Code::Similar), (104, Code::Done), (106, Code::Done), (-105, Code::Done), (0, Code::Done)]
+    {
         base.with(|t| t.sender.median = accepted).must(builder, code, "SIMILAR");
     }
     for (epoch, round, code) in [
-        (0, 0, Code::Similar), (5, 18, Code::Similar), (4, 255, Code::Similar), (5, 19, Code::Done), (5, 20, Code::Old),
+        (0, 0, Code::Similar),
+        (5, 18, Code::Similar),
+        (4, 255, Code::Similar),
+        (5, 19, Code::Done),
+        (5, 20, Code::Old),
     ] {
         base.with(|t| {
             t.sender.median = 105;
@@ -281,10 +313,17 @@ pub fn cases(builder: &mut Builder, rng: &mut Rng) {
     })
     .must(builder, Code::Done, "none accepted yet");
     for (alpha, old, new, code) in [
-        (5_000_000, 20_000, 20_100, Code::Similar), (5_000_000, 20_000, 20_101, Code::Done), (5_000_000, -200, -201, Code::Similar),
-        (5_000_000, -200, -202, Code::Done), (5_000_000, 0, 0, Code::Similar), (5_000_000, 0, 1, Code::Done),
-        (5_000_000, i64::MIN, i64::MAX, Code::Done), (1_000_000_000, i64::MIN, 0, Code::Similar),
-        (1_000_000_000, i64::MIN, 1, Code::Done), (1_000_000_000, 1, 0, Code::Similar), (0, i64::MIN, i64::MIN, Code::Similar),
+        (5_000_000, 20_000, 20_100, Code::Similar),
+        (5_000_000, 20_000, 20_101, Code::Done),
+        (5_000_000, -200, -201, Code::Similar),
+        (5_000_000, -200, -202, Code::Done),
+        (5_000_000, 0, 0, Code::Similar),
+        (5_000_000, 0, 1, Code::Done),
+        (5_000_000, i64::MIN, i64::MAX, Code::Done),
+        (1_000_000_000, i64::MIN, 0, Code::Similar),
+        (1_000_000_000, i64::MIN, 1, Code::Done),
+        (1_000_000_000, 1, 0, Code::Similar),
+        (0, i64::MIN, i64::MIN, Code::Similar),
     ] {
         let body = report(rng, 5, 20, new);
         base.with(|t| {
@@ -303,7 +342,16 @@ pub fn cases(builder: &mut Builder, rng: &mut Rng) {
     for k in 0..16u8 {
         let body = report(rng, 7, k + 1, if k % 2 == 0 { 1_000 } else { 2_000 });
         let now = 1_000_000 - 10_000 * (k as u64 % 5);
-        must(builder.transmit(now, &no_commit(), &[1, if k % 3 == 0 { 3 } else { 2 }, if k % 3 == 0 { 2 } else { 3 }, 4], &body), Code::Done, "queued");
+        must(
+            builder.transmit(
+                now,
+                &no_commit(),
+                &[1, if k % 3 == 0 { 3 } else { 2 }, if k % 3 == 0 { 2 } else { 3 }, 4],
+                &body,
+            ),
+            Code::Done,
+            "queued",
+        );
     }
     let full = builder.machine.sender.clone();
     let next = report(rng, 7, 20, 105);
@@ -314,7 +362,11 @@ pub fn cases(builder: &mut Builder, rng: &mut Rng) {
         ..base
     };
     base.must(builder, Code::Queue, "all sixteen taken");
-    base.with(|t| t.permutation = vec![1, 4, 2, 3]).must(builder, Code::Done, "beyond the last stage no slot is needed");
+    base.with(|t| t.permutation = vec![1, 4, 2, 3]).must(
+        builder,
+        Code::Done,
+        "beyond the last stage no slot is needed",
+    );
     // Every pair of faults.
     let mut room = base.clone();
     room.sender.taken[9] = 0;
@@ -338,7 +390,11 @@ pub fn cases(builder: &mut Builder, rng: &mut Rng) {
     }
     // The lowest free slot, also out of the midst.
     for free in [vec![9], vec![3, 9], vec![15], vec![0, 1, 2]] {
-        base.with(|t| free.iter().for_each(|i| t.sender.taken[*i] = 0)).must(builder, Code::Done, "the lowest free slot");
+        base.with(|t| free.iter().for_each(|i| t.sender.taken[*i] = 0)).must(
+            builder,
+            Code::Done,
+            "the lowest free slot",
+        );
     }
     // The queue runs out in order.
     builder.sender(&full);

@@ -257,6 +257,13 @@ fn start(builder: &mut Builder, rng: &mut Rng) {
     long.resize(2400, 0xFF);
     builder.kept(&long);
     must(builder.start(0, 0), Code::Done, "a good body in a long buffer");
+    for flag in [2, 3, 255] {
+        builder.node(&Node { kept: flag, ..running.clone() });
+        must(builder.start(0, 0), Code::State, "a bad flag over a good body");
+        must(builder.deliver(&newepoch(0)), Code::State, "a bad flag over a good body");
+    }
+    builder.kept(&[]);
+    must(builder.start(0, 0), Code::State, "a bad flag, and a short buffer");
 
     // Highest sent at Start, restored nodes.
     builder.lent(&all_good);
@@ -351,8 +358,18 @@ fn timers(builder: &mut Builder, rng: &mut Rng) {
 
     // T_resend and T_progress by epoch and highest sent.
     for (epoch, highest) in [
-        (0, 0), (0, 1), (0, 2), (1, 1), (5, 5), (5, 6), (5, 7), (5, 9), (LAST_EPOCH - 1, LAST_EPOCH - 1),
-        (LAST_EPOCH - 1, LAST_EPOCH), (5, LAST_EPOCH), (LAST_EPOCH, LAST_EPOCH),
+        (0, 0),
+        (0, 1),
+        (0, 2),
+        (1, 1),
+        (5, 5),
+        (5, 6),
+        (5, 7),
+        (5, 9),
+        (LAST_EPOCH - 1, LAST_EPOCH - 1),
+        (LAST_EPOCH - 1, LAST_EPOCH),
+        (5, LAST_EPOCH),
+        (LAST_EPOCH, LAST_EPOCH),
     ] {
         let node = edited(&follower, |x| {
             x.epoch = epoch;
@@ -450,8 +467,15 @@ fn timers(builder: &mut Builder, rng: &mut Rng) {
     must(builder.timer(3, 5, 0), Code::Ignored, "two observations, and some past n");
     // The order of the list: equal values, negative values, the ends of the range.
     for values in [
-        [5, 5, 5, 5], [7, 5, 5, 7], [-1, 1, 0, -2], [i64::MAX, i64::MIN, 0, -1], [i64::MIN, i64::MIN, i64::MAX, i64::MAX],
-        [256, 255, 65_536, 1], [-256, -255, 1 << 62, -(1 << 62)], [4, 3, 2, 1], [1, 2, 3, 4],
+        [5, 5, 5, 5],
+        [7, 5, 5, 7],
+        [-1, 1, 0, -2],
+        [i64::MAX, i64::MIN, 0, -1],
+        [i64::MIN, i64::MIN, i64::MAX, i64::MAX],
+        [256, 255, 65_536, 1],
+        [-256, -255, 1 << 62, -(1 << 62)],
+        [4, 3, 2, 1],
+        [1, 2, 3, 4],
     ] {
         for left_out in [1, 4] {
             let node = edited(&leader, |x| {
