@@ -1,6 +1,7 @@
 // Runs the epoch program on many inputs: a case is a length (2 bytes) and so many bytes of input; after each case's output a line "--" is printed.
 use config::Config;
 use epochline::Program;
+use epochrun::Run;
 use libc::STDIN_FILENO;
 use libc::STDOUT_FILENO;
 
@@ -33,18 +34,10 @@ fn take_input(n: u16) {
     while left > 0 {
         let mut byte = [0u8; 1];
         io::read_full(STDIN_FILENO, &mut byte);
-        run = feed(run, byte[0]);
+        run = epochrun::feed(run, byte[0]);
         left -= 1;
     }
-    end(run);
-}
-
-// A run of the program, with the buffers that it lends to the library.
-struct Run {
-    outbox: [u8; Config::FRAME],
-    kept: [u8; Config::KEPT],
-    signatures: [u8; Config::SIGNATURES],
-    program: Program,
+    epochrun::end(run);
 }
 
 // A run that has read nothing.
@@ -56,41 +49,4 @@ fn begin() -> Run {
         signatures: [0u8; Config::SIGNATURES],
         program,
     }
-}
-
-// One byte of the input.
-fn feed(run: Run, byte: u8) -> Run {
-    let mut outbox = run.outbox;
-    let mut kept = run.kept;
-    let mut signatures = run.signatures;
-    let program = run.program;
-    let mut out = [0u8; Program::PRINTED];
-    let fed = program.feed(byte, &mut outbox, &mut kept, &mut signatures, &mut out);
-    print(&out, fed.written);
-    let program = fed.program;
-    Run {
-        outbox,
-        kept,
-        signatures,
-        program,
-    }
-}
-
-// The end of the input.
-fn end(run: Run) {
-    let mut outbox = run.outbox;
-    let mut kept = run.kept;
-    let mut signatures = run.signatures;
-    let program = run.program;
-    let mut out = [0u8; Program::PRINTED];
-    let fed = program.end(&mut outbox, &mut kept, &mut signatures, &mut out);
-    print(&out, fed.written);
-}
-
-fn print(out: &[u8; Program::PRINTED], written: usize) {
-    let all: &[u8] = out;
-    if all.len() < written {
-        return;
-    }
-    io::write_all(STDOUT_FILENO, &all[..written]);
 }

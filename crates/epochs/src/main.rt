@@ -1,8 +1,8 @@
 // The epoch program: reads its input to the end and prints, after each line, the code, the epoch, the leader and the highest number sent.
 use config::Config;
 use epochline::Program;
+use epochrun::Run;
 use libc::STDIN_FILENO;
-use libc::STDOUT_FILENO;
 
 fn main() {
     let mut run = begin();
@@ -10,20 +10,12 @@ fn main() {
     while turns > 0 {
         let mut byte = [0u8; 1];
         if io::read_full(STDIN_FILENO, &mut byte) < 1 {
-            end(run);
+            epochrun::end(run);
             return;
         }
-        run = feed(run, byte[0]);
+        run = epochrun::feed(run, byte[0]);
         turns -= 1;
     }
-}
-
-// A run of the program, with the buffers that it lends to the library.
-struct Run {
-    outbox: [u8; Config::FRAME],
-    kept: [u8; Config::KEPT],
-    signatures: [u8; Config::SIGNATURES],
-    program: Program,
 }
 
 // A run that has read nothing.
@@ -35,41 +27,4 @@ fn begin() -> Run {
         signatures: [0u8; Config::SIGNATURES],
         program,
     }
-}
-
-// One byte of the input.
-fn feed(run: Run, byte: u8) -> Run {
-    let mut outbox = run.outbox;
-    let mut kept = run.kept;
-    let mut signatures = run.signatures;
-    let program = run.program;
-    let mut out = [0u8; Program::PRINTED];
-    let fed = program.feed(byte, &mut outbox, &mut kept, &mut signatures, &mut out);
-    print(&out, fed.written);
-    let program = fed.program;
-    Run {
-        outbox,
-        kept,
-        signatures,
-        program,
-    }
-}
-
-// The end of the input.
-fn end(run: Run) {
-    let mut outbox = run.outbox;
-    let mut kept = run.kept;
-    let mut signatures = run.signatures;
-    let program = run.program;
-    let mut out = [0u8; Program::PRINTED];
-    let fed = program.end(&mut outbox, &mut kept, &mut signatures, &mut out);
-    print(&out, fed.written);
-}
-
-fn print(out: &[u8; Program::PRINTED], written: usize) {
-    let all: &[u8] = out;
-    if all.len() < written {
-        return;
-    }
-    io::write_all(STDOUT_FILENO, &all[..written]);
 }

@@ -1,10 +1,10 @@
--- `epochcases::print` is safe: what is printed lies within the buffer.
+-- `epochrun::print` is safe: what is printed lies within the buffer.
 use mathlib.Core.Path.{sym}
 use native.Mathlib.Omega.{arith}
 use lib.Seq.{length-take-le}
 use borrow.Author.Needs.{needs}
-use Rattle.epochcases.proofs.print.Statement.{statement}
-use Rattle.epochcases.proofs.print.Tie as tie
+use Rattle.epochrun.proofs.print.Statement.{statement}
+use Rattle.epochrun.proofs.print.Tie as tie
 
 slice-aggregate-write-all : tie.Need-slice-aggregate-write-all
 slice-aggregate-write-all c = let a = c .before .before .before .args in sym (length-take-le (a .written) (a .out .now) (omega arith))
