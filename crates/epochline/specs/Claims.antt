@@ -1,12 +1,10 @@
 -- What a reader may quote of the epoch program: each claim is a type, proved in `proofs/Claims.antt`.
 use mathlib.Core.Path.{_≡_}
 use mathlib.Core.List.{List, [], _∷_}
-use Prim.Native.Nat.{ℕ, _≤_, _<_, _^_}
-use lib.ListN.{length}
-use Rattle.wire.specs.Numbers.{Bytes}
+use Prim.Native.Nat.{ℕ, _<_, _^_}
 use Rattle.epochline.specs.Decimal.{decimal, valueOf}
 use Rattle.epochline.specs.Output.{outputOf}
-use Rattle.epochline.specs.Machine.{Machine, printedBy, newMachine}
+use Rattle.epochline.specs.Machine.{printedBy, newMachine}
 
 -- Read a byte at a time, an input of any length is answered with its whole output.
 abbrev pub BytesMakeTheOutput : Type 0

@@ -39,7 +39,8 @@ beginning n = running n (replicate frameSize 0) (replicate keptSize 0) (replicat
 abbrev pub noCommit : Commit
 noCommit = record { median = pos 0; time = 0; epoch = 0; round = 0 }
 
--- the event of a command: the time is 0, nothing is committed, no bit is set, and a frame comes over its sender's link
+-- the event of a command: the time is 0, nothing is committed, no bit is set, and a frame comes over its sender's link. A line of another
+-- shape has none, and is not asked for one: it ends the run
 abbrev pub eventOf : Config → Command → Event
 eventOf c Start = starts 0
 eventOf c (Heard j x) = delivers (delivery j 0 (pos 0) noCommit 0 (frameBytes (c .n) (c .number) j (newEpoch x)))

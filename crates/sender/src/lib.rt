@@ -13,10 +13,10 @@ ghost use Rattle.config.specs.declared.Answer.the-variants.{Done};
 ghost use Rattle.frame.specs.Decode.{attestedIn};
 ghost use Rattle.frame.specs.Check.{bodyAnswer};
 ghost use Rattle.frame.specs.Range.{goodAttested};
-ghost use Rattle.sender.specs.State.{noneYet, freshSender, goodTimes, goodFields, goodSlots, goodSender, roomy, slotIn, reportIn, taken, timeOf};
-ghost use Rattle.sender.specs.Stage.{permutes, placeIn, stageOf, stagesOf, stageFor, waits, delayOf};
-ghost use Rattle.sender.specs.Waiting.{sooner, earliestBelow, earliest, freeIn, transmitAt};
-ghost use Rattle.sender.specs.Calls.{madeOf, medianIn, similar, old, afterSimilar, afterConfig, afterBody, transmitAnswer, withSlot, accepting, acceptingBytes, sent, transmitted, transmitOf, early, timeoutAnswer, releasing, released, timeoutOf, handedPart};
+ghost use Rattle.sender.specs.State.{goodTimes, goodFields, goodSlots, goodSender, slotIn, reportIn, taken};
+ghost use Rattle.sender.specs.Stage.{permutes, placeIn, stageFor, waits, delayOf};
+ghost use Rattle.sender.specs.Waiting.{sooner, earliest, freeIn, transmitAt};
+ghost use Rattle.sender.specs.Calls.{madeOf, similar, old, afterSimilar, afterConfig, afterBody, transmitAnswer, withSlot, accepting, acceptingBytes, sent, transmitted, transmitOf, early, timeoutAnswer, releasing, released, timeoutOf, handedPart};
 ghost use Rattle.sender.specs.Ready.{Passed, Due};
 
 // The report that a node accepted last; epoch and round are both 0 before the first one.
