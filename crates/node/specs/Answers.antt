@@ -48,6 +48,10 @@ unfoldable pub timerAnswer : Node → Fired → ℕ → Answer
 timerAnswer n t time =
     cond (not (goodTime time)) Range (cond (not (firing n t)) Ignored (cond (ending n t) End Done))
 
+-- a timer that is none of the four is an unarmed one: 9, 1
+unfoldable pub unarmedAnswer : ℕ → Answer
+unarmedAnswer time = cond (not (goodTime time)) Range Ignored
+
 -- ---- a delivery: 4, 5, 6, 7, 8, 9, 1, 10, 11
 
 -- 1: "a well-formed message whose rule's conditions fail"; 10: "conditions hold, check fails"

@@ -20,7 +20,7 @@ use Rattle.node.specs.declared.Made.{Made}
 use Rattle.node.specs.declared.Outcome.{Outcome}
 use Rattle.node.specs.State.{restoredNode, nothingSaved, roomy}
 use Rattle.node.specs.Event.{Whole, whole, Event, Effect, Step, refused, done}
-use Rattle.node.specs.Answers.{answerTo}
+use Rattle.node.specs.Answers.{afterState, unarmedAnswer, answerTo}
 use Rattle.node.specs.Effects.{nothingHanded, effectOf}
 
 -- ---- making one: "Making a fresh state: 12. Restoring one: 12, then 2."
@@ -84,3 +84,9 @@ called w e outbox at =
 
 abbrev pub callOf : Node → Event → List ℕ → ℕ → List ℕ → List ℕ → Out
 callOf n e outbox at kept signatures = called (whole n kept signatures) e outbox at
+
+-- a timer that is none of the four: 2, 3, 9, 1, and nothing else
+abbrev pub unarmedOf : Node → ℕ → List ℕ → ℕ → List ℕ → List ℕ → Out
+unarmedOf n time outbox at kept signatures =
+    let a = afterState (inRoom (whole n kept signatures) outbox at) n kept (unarmedAnswer time) in
+    out (refusing a n) outbox kept signatures

@@ -28,9 +28,9 @@ ghost use Rattle.outbox.specs.Written.{Fits};
 ghost use Rattle.leader.specs.Rules.{noSignatures};
 ghost use Rattle.node.specs.State.{leads, goodNode, goodState, roomy};
 ghost use Rattle.node.specs.Event.{whole, delivery, starts, delivers, fires};
-ghost use Rattle.node.specs.Answers.{startAnswer, firing, ending, timerAnswer, followerAnswer, leaderAnswer, ruleAnswer, messageAnswer, deliveryAnswer, afterState};
+ghost use Rattle.node.specs.Answers.{startAnswer, firing, ending, timerAnswer, unarmedAnswer, followerAnswer, leaderAnswer, ruleAnswer, messageAnswer, deliveryAnswer, afterState};
 ghost use Rattle.node.specs.Effects.{nothingHanded, announced, asking-for, replying, raising, begun, pacing, moving, hearing, following, pacedTimers, ledTimers, movedTimers, leading, led-by, delivering, timing};
-ghost use Rattle.node.specs.Calls.{restoreAnswer, restoreOf, freshOf, out, refusing, settled, callOf};
+ghost use Rattle.node.specs.Calls.{restoreAnswer, restoreOf, freshOf, out, refusing, settled, callOf, unarmedOf};
 ghost use Rattle.node.specs.Ready.{Room, Sound, Taken, WroteAll, AskingFits, Answers, ReplyFits};
 
 #[repr(C)]
@@ -180,6 +180,21 @@ impl Node {
             return self.timing(fired, outbox, at, signatures);
         }
         self.refusing(answer)
+    }
+
+    // A timer that is none of the four has fired; it is never armed.
+    pub fn unarmed(
+        self,
+        time: u64,
+        outbox: &[u8],
+        at: usize,
+        kept: &[u8],
+        signatures: &[u8],
+    ) -> Outcome
+        ensures { λ r. ⌜ out r (now (outbox .entry)) (now (kept .entry)) (now (signatures .entry)) ≡ unarmedOf self time (now (outbox .entry)) at (now (kept .entry)) (now (signatures .entry)) ⌝ }
+    {
+        let room = roomy(outbox.len(), at, kept.len(), signatures.len());
+        self.refusing(self.after_state(room, kept, unarmed_answer(time)))
     }
 
     // ---- checks
@@ -662,6 +677,16 @@ fn restore_answer(config: Config, saved: Saved) -> Answer
         return Answer::State;
     }
     Answer::Done
+}
+
+// A timer that is none of the four: 9, 1.
+fn unarmed_answer(time: u64) -> Answer
+    ensures { λ r. ⌜ r ≡ unarmedAnswer time ⌝ }
+{
+    if config::good_time(time) {
+        return Answer::Ignored;
+    }
+    Answer::Range
 }
 
 // Whether the lent buffers have their sizes, the outbox from the position on.
