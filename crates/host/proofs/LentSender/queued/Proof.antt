@@ -1,0 +1,10 @@
+-- `LentSender::queued` meets its contract: it is the transmission's answer in numbers.
+use borrow.Author.Needs.{needs}
+use Rattle.host.proofs.LentSender.queued.Statement.{statement}
+use Rattle.host.proofs.LentSender.queued.Tie as tie
+
+returns : tie.Need-returns
+returns c = cc
+
+pub queued-spec : {M : Type 1} → statement M
+queued-spec = tie.close (tie.spec (λ c κs. search needs) (λ c κs. search needs) (λ c κs. search needs) returns)
