@@ -320,7 +320,7 @@ fn paid(terms: Terms, ledger: Ledger, body: &[u8], transmitter: u8) -> Ledger
     all.earn(place_of(transmitter), terms.sending)
 }
 
-// The ledger after each listed member has earned the observation fee.
+// The ledger after each listed member has earned the observation fee. The turns alter one local: `Ledger::earn` would copy the ledger for each member.
 fn paid_all(terms: Terms, ledger: Ledger, body: &[u8]) -> Ledger
     requires { ⌜ CoversAll terms ledger (now body) ⌝ }
     ensures { λ r. ⌜ r ≡ earningAll ledger (membersOf (attestedIn (now (body .entry)) .list)) (terms .observing) ⌝ }
@@ -331,7 +331,10 @@ fn paid_all(terms: Terms, ledger: Ledger, body: &[u8]) -> Ledger
     let mut i: usize = 0;
     while i < m {
         let place = place_of(frame::member_at(body, stride, i));
-        l = l.earn(place, terms.observing);
+        l.fund = l.fund - terms.observing;
+        let a = l.accounts[place];
+        let b = ledger::with_credit(a, terms.observing);
+        l.accounts[place] = b;
         i += 1;
     }
     l

@@ -136,7 +136,7 @@ pub fn pay_out(a: &mut Account) -> u64
 }
 
 // The account with an amount more, from a value to a value through the reference.
-fn with_credit(a: Account, amount: u64) -> Account
+pub fn with_credit(a: Account, amount: u64) -> Account
     ensures { λ r. ⌜ r ≡ credited a amount ⌝ }
 {
     let mut b = a;

@@ -1,7 +1,7 @@
 -- `contract::paid_all` meets its contract. The loop's invariant: what is left of the fund holds the fees of the members that are left, and paying
--- those makes the whole.
+-- those makes the whole. What a turn stores is what `earning` says.
 use mathlib.Core.Path.{_≡_, refl, sym, ap, _∙_}
-use Prim.Native.Nat.{ℕ, _+_, _-_, _*_, _≤_, _<_}
+use Prim.Native.Nat.{ℕ, _-_, _*_, _≤_, _<_}
 use native.Mathlib.Numerals.{unary-clauses}
 use native.Mathlib.Omega.{arith}
 use borrow.Author.Needs.{needs}
@@ -12,7 +12,6 @@ use Rattle.frame.specs.Message.{Observation, noObservation}
 use Rattle.frame.specs.Table.{shapeOf}
 use Rattle.frame.specs.Decode.{countIn, observationsIn}
 use Rattle.frame.proofs.Checked.{CheckedFinal, checked-final}
-use Rattle.ledger.specs.declared.Ledger.{Ledger}
 use Rattle.ledger.specs.Ledger.{earning}
 use Rattle.contract.specs.Calls.{earningAll}
 use Rattle.contract.proofs.Fees.{listedIn, listed-count, fees-next, earn-next}
@@ -53,31 +52,32 @@ loop-holds c = let s = c .before .before .before in (omega arith, simp unary-cla
 member-at-requires : tie.Need-member-at-requires Inv-loop μ-loop
 member-at-requires c κs = rw (c .before .before .stride .ensures) (checked (c .before .before .before .before .before) .list .entry (c .before .loop .i) (inside c))
 
-earn-requires : tie.Need-earn-requires Inv-loop μ-loop
-earn-requires c κs =
-    let a = c .before .before .before .before .before .before .before .args in
-    let next = fees-next (countIn (now (a .body))) (c .before .before .before .loop .i) (a .terms .observing) (inside (c .before .before)) in
-    (omega (arith, c .place-of .ensures, ranged (c .before) .0, ranged (c .before) .1), omega (arith, c .before .before .before .loop .inv .1))
+placed : (c : tie.After-place-of Inv-loop μ-loop) → c .place-of .result < members
+placed c = omega (arith, c .place-of .ensures, ranged (c .before) .0, ranged (c .before) .1)
+
+sub-l : tie.Need-sub-l Inv-loop μ-loop
+sub-l c =
+    let at = c .before .before .before .before in
+    let a = at .before .before .before .before .args in
+    let next = fees-next (countIn (now (a .body))) (at .loop .i) (a .terms .observing) (inside (c .before .before .before)) in
+    omega (arith, at .loop .inv .1)
 
 loop-again : tie.Need-loop-again Inv-loop μ-loop
 unfolding earning
 loop-again c =
-    let a = c .before .before .before .before .before .before .before .before .args in
+    let p = c .before .before .before in
+    let at = p .before .before .before in
+    let a = at .before .before .before .before .args in
     let b = now (a .body) in
-    let i = c .before .before .before .before .loop .i in
-    let l = c .before .before .before .before .loop .l in
+    let i = at .loop .i in
     let fee = a .terms .observing in
-    let h = inside (c .before .before .before) in
-    let next = fees-next (countIn b) i fee h in
-    let left = ap (λ (x : Ledger). x .fund) (c .earn .ensures) in
-    let e = said (c .before .before) ∙ sym (List·getD-map (λ (o : Observation). o .member) (observationsIn (shapeOf 6 .entry) b) i noObservation) in
+    let next = fees-next (countIn b) i fee (inside (p .before .before)) in
+    let e = said (p .before) ∙ sym (List·getD-map (λ (o : Observation). o .member) (observationsIn (shapeOf 6 .entry) b) i noObservation) in
     let long = listed-count b in (
       omega arith,
-      omega (arith, c .before .before .before .before .loop .inv .1),
-      ap (λ (x : Ledger). earningAll x (drop (i + 1) (listedIn b)) fee) (c .earn .ensures)
-          ∙ ap (λ (place : ℕ). earningAll (earning l place fee) (drop (i + 1) (listedIn b)) fee) (c .before .place-of .ensures)
-          ∙ earn-next l (listedIn b) i fee (c .before .before .member-at .result) (omega arith) e
-          ∙ c .before .before .before .before .loop .inv .2,
+      omega (arith, at .loop .inv .1),
+      rw (c .with-credit .ensures, p .place-of .ensures)
+          (earn-next (at .loop .l) (listedIn b) i fee (p .before .member-at .result) (omega arith) e ∙ at .loop .inv .2),
     )
 
 returns : tie.Need-returns Inv-loop μ-loop
@@ -98,7 +98,12 @@ paid-all-spec =
     loop-holds
     member-at-requires
     (λ c κs. ranged c .0)
-    earn-requires
+    sub-l
+    (λ c. search needs)
+    (λ c. omega (arith, placed (c .before)))
+    (λ c κs. search needs)
+    (λ c. search needs)
+    (λ c. omega (arith, placed (c .before .before .before)))
     (λ c. omega arith)
     (λ c. omega arith)
     loop-again
