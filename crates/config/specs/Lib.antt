@@ -2,4 +2,3 @@ pub mod Limits
 pub mod Codes
 pub mod Bounds
 pub mod Leader
-pub mod Timers

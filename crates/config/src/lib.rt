@@ -7,7 +7,6 @@ ghost use Rattle.config.specs.Limits.{mostStages, limits};
 ghost use Rattle.config.specs.Codes.{numberOf, isDone};
 ghost use Rattle.config.specs.Bounds.{configOf, goodMembers, goodOwn, noneEmpty, sum, goodSchedule, goodRates, goodFeed, goodConfig, goodTime, paired, goodCommit, noCommit};
 ghost use Rattle.config.specs.Leader.{leaderOf};
-ghost use Rattle.config.specs.Timers.{thenTimer};
 
 // What the members of one feed have agreed on, and which of them this node is.
 #[repr(C)]
@@ -373,18 +372,5 @@ impl Answer {
         ensures { λ r. ⌜ r ≡ isDone self ⌝ }
     {
         self.number() == 0
-    }
-}
-
-impl Timer {
-    // What two rules in a row come to: the later one decides where it says anything.
-    pub fn then(self, later: Timer) -> Timer
-        ensures { λ r. ⌜ r ≡ thenTimer self later ⌝ }
-    {
-        match later {
-            Timer::Leave => self,
-            Timer::Start => Timer::Start,
-            Timer::Stop => Timer::Stop,
-        }
     }
 }

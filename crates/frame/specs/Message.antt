@@ -31,9 +31,6 @@ pub record Attested : Type 0 where
 abbrev pub noObservation : Observation
 noObservation = record { member = 0; value = pos 0 }
 
-abbrev pub noSigned : Signed
-noSigned = record { said = noObservation; signature = [] }
-
 abbrev pub noSigner : Signer
 noSigner = record { member = 0; signature = [] }
 

@@ -5,9 +5,9 @@ ghost use mathlib.Core.Path.{_≡_};
 ghost use mathlib.Core.Bool.{false, not, cond, _&&_};
 ghost use Prim.Native.Nat.{_+_, _*_, _≤_, _<_};
 ghost use lib.ListN.{length, getD, drop};
-ghost use Rattle.frame.specs.Message.{noObservation, noSigned, noSigner};
+ghost use Rattle.frame.specs.Message.{noObservation, noSigner};
 ghost use Rattle.frame.specs.Table.{shapeOf, bodyLength, versionOf, trailerLength, destinationOf};
-ghost use Rattle.frame.specs.Decode.{kindIn, senderIn, bodyIn, entries, epochIn, roundIn, valueIn, observeSignature, countIn, listPlace, observationsIn, signedIn, listEnd, reportSignature, signerCountIn, signersIn, attestedIn, ListIn, SignersIn, Readable};
+ghost use Rattle.frame.specs.Decode.{kindIn, bodyIn, entries, epochIn, roundIn, valueIn, observeSignature, countIn, listPlace, observationsIn, listEnd, reportSignature, signerCountIn, signersIn, attestedIn, ListIn, SignersIn, Readable};
 ghost use Rattle.frame.specs.Range.{goodEpoch, goodRound, allMembers, goodObservations, goodSigners, goodAttested};
 ghost use Rattle.frame.specs.Check.{bodyAnswer, tooShort, frameAnswer, bodyStart};
 
@@ -137,14 +137,6 @@ pub fn kind_of(frame: &[u8]) -> u8
     ensures { λ r. ⌜ r ≡ kindIn (now (frame .entry)) ⌝ }
 {
     frame[frame.len() - TRAILER]
-}
-
-// The member that it names as its sender.
-pub fn sender_of(frame: &[u8]) -> u8
-    requires { ⌜ trailerLength ≤ length (now frame) ⌝ }
-    ensures { λ r. ⌜ r ≡ senderIn (now (frame .entry)) ⌝ }
-{
-    frame[frame.len() - TRAILER + 1]
 }
 
 // Its body.
@@ -440,16 +432,6 @@ pub fn value_at(body: &[u8], stride: usize, i: usize) -> i64
     wire::get_i64(body, LIST + i * stride + 1)
 }
 
-// The signature of observation i of a REPORT-REQ.
-pub fn signature_at(body: &[u8], i: usize) -> &[u8]
-    requires { ⌜ ListIn (shapeOf 4 .entry) i (now body) ⌝ }
-    ensures { λ r. ⌜ now r ≡ getD (signedIn (now (body .entry))) i noSigned .signature ⌝ }
-{
-    let start = LIST + i * stride(4) + stride(6);
-    let end = start + Config::SIGNATURE;
-    &body[start..end]
-}
-
 // Where a list of bare observations ends: at the signature of a REPORT, at s of a FINAL.
 pub fn list_end(body: &[u8]) -> usize
     requires { ⌜ listPlace ≤ length (now body) ⌝ }
@@ -484,16 +466,6 @@ pub fn signer_at(body: &[u8], i: usize) -> u8
 {
     let place = list_end(body) + 1 + i * signer_stride();
     body[place]
-}
-
-// Its signature.
-pub fn signer_signature(body: &[u8], i: usize) -> &[u8]
-    requires { ⌜ SignersIn i (now body) ⌝ }
-    ensures { λ r. ⌜ now r ≡ getD (signersIn (now (body .entry))) i noSigner .signature ⌝ }
-{
-    let start = list_end(body) + 1 + i * signer_stride() + 1;
-    let end = start + Config::SIGNATURE;
-    &body[start..end]
 }
 
 // How long the FINAL body at the start of a slice is.

@@ -8,7 +8,7 @@ ghost use Prim.Native.Nat.{_≤_, _<_, max};
 ghost use lib.ListN.{take};
 ghost use Rattle.config.specs.Limits.{members, lastEpoch};
 ghost use Rattle.quorum.specs.Counts.{countAbove, reached};
-ghost use Rattle.pacemaker.specs.State.{freshPace, restoredPace, goodPace};
+ghost use Rattle.pacemaker.specs.State.{restoredPace, goodPace};
 ghost use Rattle.pacemaker.specs.Rules.{stays, withProgress, sending, entering, startOf, mayStart, resendOf, firesResend, changeLeaderOf, firesProgress, pastEnd, progressOf, hearing, amplifying, moving, newEpochOf};
 
 // What a node knows of epochs.
@@ -46,15 +46,6 @@ pub struct Paced {
 }
 
 impl Pace {
-    pub fn fresh() -> Self
-        ensures { λ r. ⌜ r ≡ freshPace ⌝ }
-    {
-        Pace::restored(Saved {
-            epoch: 0,
-            highest: 0,
-        })
-    }
-
     pub fn restored(saved: Saved) -> Self
         ensures { λ r. ⌜ r ≡ restoredPace saved ⌝ }
     {

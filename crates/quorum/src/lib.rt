@@ -4,8 +4,8 @@ ghost use mathlib.Core.Path.{_≡_};
 ghost use Prim.Native.Nat.{_+_, _*_, _≤_, _<_};
 ghost use lib.ListN.{length, take, drop};
 ghost use Rattle.quorum.specs.Counts.{countAbove, countReaching, reached};
-ghost use Rattle.quorum.specs.Marks.{flags, mark, countMarks};
-ghost use Rattle.quorum.specs.First.{firstClear, allSet, firstRepeat, column};
+ghost use Rattle.quorum.specs.Marks.{flags, countMarks};
+ghost use Rattle.quorum.specs.First.{firstClear, firstRepeat, column};
 
 // How many entries exceed x.
 pub fn count_above(entries: &[u32], x: u32) -> usize
@@ -63,14 +63,6 @@ pub fn flags(marks: &[u8]) -> bool
     good
 }
 
-// Marks a place.
-pub fn mark(marks: &mut [u8], place: usize)
-    requires { ⌜ place < length (now marks) ⌝ }
-    ensures { λ _. ⌜ now (marks .exit) ≡ mark (now (marks .entry)) place ⌝ }
-{
-    marks[place] = 1;
-}
-
 // How many of the first `many` places are marked.
 pub fn count_marks(marks: &[u8], many: usize) -> usize
     requires { ⌜ many ≤ length (now marks) ⌝ }
@@ -101,13 +93,6 @@ pub fn first_clear(bits: u64, many: usize) -> usize
         i += 1;
     }
     many
-}
-
-// Whether the first `many` bits are all set.
-pub fn all_set(bits: u64, many: usize) -> bool
-    ensures { λ r. ⌜ r ≡ allSet bits many ⌝ }
-{
-    first_clear(bits, many) == many
 }
 
 // Of `many` entries of `stride` bytes from `at` on, the place of the first whose first byte an earlier entry has too;
