@@ -23,9 +23,6 @@ const SPACE: u8 = 32;
 
 const NOUGHT: u8 = 48;
 
-// How long the frame of a NEWEPOCH is.
-const FRAME: usize = 20;
-
 // What a line says.
 pub enum Command {
     Start,
@@ -276,7 +273,7 @@ fn heard(
         own: j,
         ..node.config
     };
-    let mut frame = [0u8; FRAME];
+    let mut frame = [0u8; frame::NEWEPOCH_FRAME];
     outbox::write_newepoch(&mut frame, 0, sender, x);
     let commit = Commit {
         median: 0,

@@ -86,6 +86,9 @@ const TABLE: [Shape; 7] = [
 // How long a trailer is.
 pub const TRAILER: usize = 16;
 
+// How long the frame of a NEWEPOCH is.
+pub const NEWEPOCH_FRAME: usize = TABLE[0].base + TRAILER;
+
 // Where the list of a body begins, behind epoch, round and m.
 pub const LIST: usize = 6;
 

@@ -116,7 +116,7 @@ fn fill(bytes: &mut [u8], lengths: Lengths, letter: u8, said: &[u8]) -> Turn
     let n = said.len();
     match letter {
         b'o' => {
-            if memory::OUTBOX < n {
+            if memory::OUTBOX_ROOM < n {
                 return ended(lengths);
             }
             wire::copy(bytes, memory::OUTBOX_AT, said, 0, n);
@@ -126,14 +126,14 @@ fn fill(bytes: &mut [u8], lengths: Lengths, letter: u8, said: &[u8]) -> Turn
             })
         }
         b'k' => {
-            if memory::KEPT < n {
+            if memory::KEPT_ROOM < n {
                 return ended(lengths);
             }
             wire::copy(bytes, memory::KEPT_AT, said, 0, n);
             going(Lengths { kept: n, ..lengths })
         }
         b'g' => {
-            if memory::SIGNATURES < n {
+            if memory::SIGNATURES_ROOM < n {
                 return ended(lengths);
             }
             wire::copy(bytes, memory::SIGNATURES_AT, said, 0, n);
@@ -143,7 +143,7 @@ fn fill(bytes: &mut [u8], lengths: Lengths, letter: u8, said: &[u8]) -> Turn
             })
         }
         _ => {
-            if memory::WAITING < n {
+            if memory::WAITING_ROOM < n {
                 return ended(lengths);
             }
             wire::copy(bytes, memory::WAITING_AT, said, 0, n);

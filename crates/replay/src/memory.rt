@@ -6,13 +6,13 @@ ghost use Prim.Native.Nat.{_+_, _≤_};
 ghost use lib.ListN.{length};
 
 // The room of each buffer.
-pub const OUTBOX: usize = 8192;
+pub const OUTBOX_ROOM: usize = 8192;
 
-pub const KEPT: usize = 4096;
+pub const KEPT_ROOM: usize = 4096;
 
-pub const SIGNATURES: usize = 8192;
+pub const SIGNATURES_ROOM: usize = 8192;
 
-pub const WAITING: usize = 40960;
+pub const WAITING_ROOM: usize = 40960;
 
 // Where each image and each buffer begins.
 pub const NODE_AT: usize = 0;
@@ -23,13 +23,13 @@ pub const CONTRACT_AT: usize = SENDER_AT + image::SENDER;
 
 pub const OUTBOX_AT: usize = CONTRACT_AT + image::CONTRACT;
 
-pub const KEPT_AT: usize = OUTBOX_AT + OUTBOX;
+pub const KEPT_AT: usize = OUTBOX_AT + OUTBOX_ROOM;
 
-pub const SIGNATURES_AT: usize = KEPT_AT + KEPT;
+pub const SIGNATURES_AT: usize = KEPT_AT + KEPT_ROOM;
 
-pub const WAITING_AT: usize = SIGNATURES_AT + SIGNATURES;
+pub const WAITING_AT: usize = SIGNATURES_AT + SIGNATURES_ROOM;
 
-pub const SIZE: usize = WAITING_AT + WAITING;
+pub const SIZE: usize = WAITING_AT + WAITING_ROOM;
 
 // How long each buffer is.
 pub struct Lengths {

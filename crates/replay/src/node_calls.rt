@@ -95,7 +95,7 @@ fn start(bytes: &mut [u8], lengths: Lengths, said: &[u8]) -> bool
         return false;
     }
     let o = lengths.outbox;
-    let mut outbox = [0u8; memory::OUTBOX];
+    let mut outbox = [0u8; memory::OUTBOX_ROOM];
     wire::copy(&mut outbox, 0, &bytes[..], memory::OUTBOX_AT, o);
     starting(bytes, lengths, said, &mut outbox[..o]);
     true
@@ -132,13 +132,13 @@ fn deliver(bytes: &mut [u8], lengths: Lengths, said: &[u8]) -> bool
         return false;
     }
     let o = lengths.outbox;
-    let mut outbox = [0u8; memory::OUTBOX];
+    let mut outbox = [0u8; memory::OUTBOX_ROOM];
     wire::copy(&mut outbox, 0, &bytes[..], memory::OUTBOX_AT, o);
     let k = lengths.kept;
-    let mut kept = [0u8; memory::KEPT];
+    let mut kept = [0u8; memory::KEPT_ROOM];
     wire::copy(&mut kept, 0, &bytes[..], memory::KEPT_AT, k);
     let g = lengths.signatures;
-    let mut signatures = [0u8; memory::SIGNATURES];
+    let mut signatures = [0u8; memory::SIGNATURES_ROOM];
     wire::copy(&mut signatures, 0, &bytes[..], memory::SIGNATURES_AT, g);
     delivering(
         bytes,
@@ -216,10 +216,10 @@ fn fires(bytes: &mut [u8], lengths: Lengths, said: &[u8], fired: Fired) -> bool
     requires { ⌜ (memorySize ≤ length (now bytes)) × Within lengths × (timerSize ≤ length (now said)) ⌝ }
 {
     let o = lengths.outbox;
-    let mut outbox = [0u8; memory::OUTBOX];
+    let mut outbox = [0u8; memory::OUTBOX_ROOM];
     wire::copy(&mut outbox, 0, &bytes[..], memory::OUTBOX_AT, o);
     let g = lengths.signatures;
-    let mut signatures = [0u8; memory::SIGNATURES];
+    let mut signatures = [0u8; memory::SIGNATURES_ROOM];
     wire::copy(&mut signatures, 0, &bytes[..], memory::SIGNATURES_AT, g);
     firing(
         bytes,

@@ -3,14 +3,15 @@ use mathlib.Core.Path.{_≡_}
 use Prim.Native.Nat.{_≤_, _-_}
 use lib.ListN.{length}
 use borrow.Author.Needs.{needs}
+use Rattle.config.specs.Limits.{members}
 use Rattle.replay.proofs.image.put_heard.Statement.{statement}
 use Rattle.replay.proofs.image.put_heard.Tie as tie
 
 abbrev Inv-loop : tie.InvT-loop
-Inv-loop s₀ at heard i₀ s i = (i ≤ 31) × (length s ≡ length s₀)
+Inv-loop s₀ at heard i₀ s i = (i ≤ members) × (length s ≡ length s₀)
 
 abbrev μ-loop : tie.MeasureT-loop
-μ-loop s₀ at heard i₀ s i = 31 - i
+μ-loop s₀ at heard i₀ s i = members - i
 
 pub put-heard-spec : {M : Type 1} → statement M
 put-heard-spec =

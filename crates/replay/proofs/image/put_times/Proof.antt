@@ -3,14 +3,15 @@ use mathlib.Core.Path.{_≡_}
 use Prim.Native.Nat.{_≤_, _-_}
 use lib.ListN.{length}
 use borrow.Author.Needs.{needs}
+use Rattle.config.specs.Limits.{slots}
 use Rattle.replay.proofs.image.put_times.Statement.{statement}
 use Rattle.replay.proofs.image.put_times.Tie as tie
 
 abbrev Inv-loop : tie.InvT-loop
-Inv-loop s₀ at times k₀ s k = (k ≤ 16) × (length s ≡ length s₀)
+Inv-loop s₀ at times k₀ s k = (k ≤ slots) × (length s ≡ length s₀)
 
 abbrev μ-loop : tie.MeasureT-loop
-μ-loop s₀ at times k₀ s k = 16 - k
+μ-loop s₀ at times k₀ s k = slots - k
 
 pub put-times-spec : {M : Type 1} → statement M
 put-times-spec =

@@ -4,14 +4,15 @@ use Prim.Native.Nat.{_≤_, _-_}
 use native.Mathlib.Omega.{arith}
 use lib.ListN.{length, length-set}
 use borrow.Author.Needs.{needs}
+use Rattle.config.specs.Limits.{slots}
 use Rattle.replay.proofs.image.times_at.Statement.{statement}
 use Rattle.replay.proofs.image.times_at.Tie as tie
 
 abbrev Inv-loop : tie.InvT-loop
-Inv-loop s at times₀ k₀ times k = (k ≤ 16) × (length times ≡ 16)
+Inv-loop s at times₀ k₀ times k = (k ≤ slots) × (length times ≡ slots)
 
 abbrev μ-loop : tie.MeasureT-loop
-μ-loop s at times₀ k₀ times k = 16 - k
+μ-loop s at times₀ k₀ times k = slots - k
 
 loop-again : tie.Need-loop-again Inv-loop μ-loop
 loop-again c = (omega arith, simp length-set (omega arith))

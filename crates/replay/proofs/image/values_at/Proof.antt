@@ -4,14 +4,15 @@ use Prim.Native.Nat.{_≤_, _-_}
 use native.Mathlib.Omega.{arith}
 use lib.ListN.{length, length-set}
 use borrow.Author.Needs.{needs}
+use Rattle.config.specs.Limits.{members}
 use Rattle.replay.proofs.image.values_at.Statement.{statement}
 use Rattle.replay.proofs.image.values_at.Tie as tie
 
 abbrev Inv-loop : tie.InvT-loop
-Inv-loop s at values₀ i₀ values i = (i ≤ 31) × (length values ≡ 31)
+Inv-loop s at values₀ i₀ values i = (i ≤ members) × (length values ≡ members)
 
 abbrev μ-loop : tie.MeasureT-loop
-μ-loop s at values₀ i₀ values i = 31 - i
+μ-loop s at values₀ i₀ values i = members - i
 
 loop-again : tie.Need-loop-again Inv-loop μ-loop
 loop-again c = (omega arith, simp length-set (omega arith))
