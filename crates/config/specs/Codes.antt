@@ -1,5 +1,5 @@
 -- Document 01, "Codes": the number of each answer.
-use mathlib.Core.Bool.{Bool}
+use mathlib.Core.Bool.{Bool, cond}
 use Prim.Native.Nat.{ℕ}
 use lib.Dec.{eqb}
 use Rattle.config.specs.declared.Answer.{Answer}
@@ -27,6 +27,10 @@ numberOf Signers = 17
 numberOf Funds = 18
 numberOf Similar = 19
 numberOf Queue = 20
+
+-- "Making a fresh state: 12", where what it is made of is out of range
+abbrev pub making : Bool → Answer
+making good = cond good Done Config
 
 -- "Only code 0 changes anything"
 abbrev pub isDone : Answer → Bool

@@ -1,10 +1,10 @@
 // The configuration of a feed, and what every other crate asks about it: limits, codes, times, commits, leaders.
 // Tests are joined by `&`: none of them has to wait for another, and the prover reads the whole as one value.
 ghost use mathlib.Core.Path.{_≡_};
-ghost use Prim.Native.Nat.{_<_, _≤_};
+ghost use Prim.Native.Nat.{_-_, _<_, _≤_};
 ghost use lib.ListN.{take};
 ghost use Rattle.config.specs.Limits.{mostStages, limits};
-ghost use Rattle.config.specs.Codes.{numberOf, isDone};
+ghost use Rattle.config.specs.Codes.{numberOf, isDone, making};
 ghost use Rattle.config.specs.Bounds.{configOf, goodMembers, goodOwn, noneEmpty, sum, goodSchedule, goodRates, goodFeed, goodConfig, goodTime, paired, goodCommit, noCommit};
 ghost use Rattle.config.specs.Leader.{leaderOf};
 
@@ -303,6 +303,13 @@ pub fn good_time(time: u64) -> bool
     time <= Config::LAST_TIME
 }
 
+// How many milliseconds lie between two times; none where the second is behind the first.
+pub fn between(from: u64, to: u64) -> u64
+    ensures { λ r. ⌜ r ≡ to - from ⌝ }
+{
+    if from < to { to - from } else { 0 }
+}
+
 // Whether epoch and round are both 0 or neither.
 pub fn paired(epoch: u32, round: u8) -> bool
     ensures { λ r. ⌜ r ≡ paired epoch round ⌝ }
@@ -365,6 +372,13 @@ impl Answer {
             Answer::Similar => 19,
             Answer::Queue => 20,
         }
+    }
+
+    // What making a fresh state answers: CONFIG where what it is made of is out of range.
+    pub fn of_making(good: bool) -> Answer
+        ensures { λ r. ⌜ r ≡ making good ⌝ }
+    {
+        if good { Answer::Done } else { Answer::Config }
     }
 
     // Whether the rule ran: nothing else changes anything.

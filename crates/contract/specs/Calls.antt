@@ -6,7 +6,7 @@ use lib.Dec.{ltb}
 use lib.ListN.{length}
 use Rattle.config.specs.Limits.{mostDeposits}
 use Rattle.config.specs.Bounds.{goodOwn, goodTime}
-use Rattle.config.specs.Codes.{isDone}
+use Rattle.config.specs.Codes.{isDone, making}
 use Rattle.config.specs.declared.Answer.{Answer}
 use Rattle.config.specs.declared.Answer.the-variants as answer
 use Rattle.price.specs.Median.{medianOf}
@@ -31,7 +31,7 @@ use Rattle.contract.specs.State.{goodTerms, goodContract, freshContract,
 -- ---- making one: "Making a fresh state: 12."
 
 unfoldable pub madeOf : Terms → Made
-madeOf t = record { answer = cond (goodTerms t) answer.Done answer.Config; contract = freshContract t }
+madeOf t = record { answer = making (goodTerms t); contract = freshContract t }
 
 -- ---- submission: 2, 8, 9, 13, 14, 15, 16, 17, 7, 18
 

@@ -5,7 +5,7 @@ use config::Config;
 use ledger::Ledger;
 use report::Fault;
 ghost use mathlib.Core.Path.{_≡_};
-ghost use mathlib.Core.Bool.{true, cond};
+ghost use mathlib.Core.Bool.{true};
 ghost use Prim.Native.Nat.{_≤_};
 ghost use Rattle.config.specs.declared.Answer.the-variants.{Done};
 ghost use Rattle.frame.specs.Decode.{attestedIn};
@@ -99,7 +99,7 @@ impl Contract {
             round: 0,
         };
         Made {
-            answer: answer_made(terms.good()),
+            answer: Answer::of_making(terms.good()),
             contract: Contract {
                 ledger,
                 commit,
@@ -293,12 +293,6 @@ fn place_of(member: u8) -> usize
     ensures { λ r. ⌜ r ≡ placeOf member ⌝ }
 {
     member as usize - 1
-}
-
-fn answer_made(good: bool) -> Answer
-    ensures { λ r. ⌜ r ≡ cond good Answer.Done Answer.Config ⌝ }
-{
-    if good { Answer::Done } else { Answer::Config }
 }
 
 // A refusal without a detail.

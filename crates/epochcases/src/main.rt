@@ -1,7 +1,5 @@
 // Runs the epoch program on many inputs: a case is a length (2 bytes) and so many bytes of input; after each case's output a line "--" is printed.
 use config::Config;
-use epochline::Program;
-use epochrun::Run;
 use libc::STDIN_FILENO;
 use libc::STDOUT_FILENO;
 
@@ -29,7 +27,7 @@ fn take_turn() -> bool {
 
 // The next n bytes are an input of their own.
 fn take_input(n: u16) {
-    let mut run = begin();
+    let mut run = epochrun::begin([0u8; Config::FRAME]);
     let mut left = n;
     while left > 0 {
         let mut byte = [0u8; 1];
@@ -38,15 +36,4 @@ fn take_input(n: u16) {
         left -= 1;
     }
     epochrun::end(run);
-}
-
-// A run that has read nothing.
-fn begin() -> Run {
-    let program = Program::new();
-    Run {
-        outbox: [0u8; Config::FRAME],
-        kept: [0u8; Config::KEPT],
-        signatures: [0u8; Config::SIGNATURES],
-        program,
-    }
 }

@@ -11,6 +11,17 @@ pub struct Run {
     pub program: Program,
 }
 
+// A run that has read nothing, with the frame buffer that the program has made.
+pub fn begin(outbox: [u8; Config::FRAME]) -> Run {
+    let program = Program::new();
+    Run {
+        outbox,
+        kept: [0u8; Config::KEPT],
+        signatures: [0u8; Config::SIGNATURES],
+        program,
+    }
+}
+
 // One byte of the input.
 pub fn feed(run: Run, byte: u8) -> Run {
     let mut outbox = run.outbox;

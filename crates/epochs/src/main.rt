@@ -1,11 +1,9 @@
 // The epoch program: reads its input to the end and prints, after each line, the code, the epoch, the leader and the highest number sent.
 use config::Config;
-use epochline::Program;
-use epochrun::Run;
 use libc::STDIN_FILENO;
 
 fn main() {
-    let mut run = begin();
+    let mut run = epochrun::begin([0u8; Config::FRAME]);
     let mut turns = u64::MAX;
     while turns > 0 {
         let mut byte = [0u8; 1];
@@ -15,16 +13,5 @@ fn main() {
         }
         run = epochrun::feed(run, byte[0]);
         turns -= 1;
-    }
-}
-
-// A run that has read nothing.
-fn begin() -> Run {
-    let program = Program::new();
-    Run {
-        outbox: [0u8; Config::FRAME],
-        kept: [0u8; Config::KEPT],
-        signatures: [0u8; Config::SIGNATURES],
-        program,
     }
 }

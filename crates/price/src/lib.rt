@@ -25,14 +25,7 @@ pub fn should_report(config: Config, time: u64, commit: Commit, median: i64) -> 
     if deviates(config, commit.median, median) {
         return true;
     }
-    config.delta_c < passed(commit.time, time)
-}
-
-// How much time has passed; none where the clock is behind.
-fn passed(since: u64, time: u64) -> u64
-    ensures { λ r. ⌜ r ≡ time - since ⌝ }
-{
-    if since < time { time - since } else { 0 }
+    config.delta_c < config::between(commit.time, time)
 }
 
 // Whether `new` deviates from `old` by more than alpha, exactly: magnitudes are u64, products have two parts.

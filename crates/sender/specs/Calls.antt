@@ -7,7 +7,7 @@ use lib.IntN.{ℤ}
 use lib.ListN.{set}
 use Rattle.config.specs.Limits.{keptSize, slots}
 use Rattle.config.specs.Bounds.{goodConfig, goodTime, goodCommit}
-use Rattle.config.specs.Codes.{isDone}
+use Rattle.config.specs.Codes.{isDone, making}
 use Rattle.config.specs.declared.Answer.{Answer}
 use Rattle.config.specs.declared.Answer.the-variants as answer
 use Rattle.config.specs.declared.Config.{Config}
@@ -36,7 +36,7 @@ use Rattle.sender.specs.Waiting.{earliest, freeIn, transmitAt}
 -- ---- making one: "Making a fresh state: 12."
 
 unfoldable pub madeOf : Config → Made
-madeOf c = record { answer = cond (goodConfig c) answer.Done answer.Config; sender = freshSender c }
+madeOf c = record { answer = making (goodConfig c); sender = freshSender c }
 
 -- ---- transmission: 2, 3, 8, 9, 12, 13, 19, 20
 

@@ -4,7 +4,7 @@ use config::Commit;
 use config::Config;
 ghost use mathlib.Core.Path.{_≡_};
 ghost use mathlib.Core.Bool.{true, not, cond, _&&_, _||_};
-ghost use Prim.Native.Nat.{_+_, _-_, _≤_, _<_};
+ghost use Prim.Native.Nat.{_+_, _≤_, _<_};
 ghost use lib.Dec.{eqb};
 ghost use lib.ListN.{length};
 ghost use Rattle.config.specs.Limits.{members, longestStage, mostStages, slots, waitingSize};
@@ -83,7 +83,7 @@ impl Sender {
             round: 0,
         };
         Made {
-            answer: answer_made(config.good()),
+            answer: Answer::of_making(config.good()),
             sender: Sender {
                 config,
                 accepted,
@@ -326,7 +326,7 @@ impl Sender {
         if slot == Config::SLOTS {
             return Transmit::Stop;
         }
-        Transmit::Set(less(self.times[slot], time))
+        Transmit::Set(config::between(time, self.times[slot]))
     }
 
     // The slot of the earliest report; the number of slots where none waits.
@@ -569,17 +569,4 @@ fn free_in(taken: [u8; Config::SLOTS]) -> usize
         k += 1;
     }
     k
-}
-
-// a less b, at least 0.
-fn less(a: u64, b: u64) -> u64
-    ensures { λ r. ⌜ r ≡ a - b ⌝ }
-{
-    if b < a { a - b } else { 0 }
-}
-
-fn answer_made(good: bool) -> Answer
-    ensures { λ r. ⌜ r ≡ cond good Answer.Done Answer.Config ⌝ }
-{
-    if good { Answer::Done } else { Answer::Config }
 }

@@ -28,7 +28,7 @@ unfolding shouldReport
 returns-3 c =
     let d = c .before .before .before in
     let e = sym (d .before .before .before .none .ensures) ∙ d .before .before .if1 .left in
-    sym (rw (e, sym (deviation d) ∙ c .before .before .if2 .left, c .before .passed .ensures))
+    sym (rw (e, sym (deviation d) ∙ c .before .before .if2 .left, c .before .between .ensures))
 
 pub should-report-spec : {M : Type 1} → statement M
 should-report-spec =

@@ -13,7 +13,7 @@ returns-2 : tie.Need-returns-2
 unfolding transmitAt
 returns-2 c =
     let d = c .before .before in
-    rw (c .less .ensures, ← d .before .earliest .ensures .0, ne-eqb _ _ (d .if1 .left))
+    rw (c .between .ensures, ← d .before .earliest .ensures .0, ne-eqb _ _ (d .if1 .left))
 
 pub transmit-at-spec : {M : Type 1} → statement M
 transmit-at-spec = tie.close (tie.spec (λ c κs. search needs) returns (λ c. search needs) (λ c. search needs) (λ c κs. search needs) returns-2)
