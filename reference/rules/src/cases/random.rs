@@ -922,7 +922,7 @@ pub fn episode(builder: &mut Builder, rng: &mut Rng) {
 /// The gate's share: small, with the buffers seldom set.
 pub fn gate_cases(builder: &mut Builder, rng: &mut Rng) {
     set_buffers(builder, rng, 20);
-    let until = 1_470_000;
+    let until = 1_495_000;
     while builder.script.len() < until {
         match rng.below(10) {
             0..=5 => node_episode(builder, rng, 12, 14),

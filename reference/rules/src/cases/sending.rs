@@ -333,11 +333,12 @@ pub fn cases(builder: &mut Builder, rng: &mut Rng) {
         })
         .must(builder, code, "deviation");
     }
-    // The median of a longer list, as written.
-    let longer = final_body(rng, 5, 20, &[(1, 9), (2, 1), (3, 5), (4, 3)], &[1, 2]).write();
+    // The median of a longer list, as written: 3, where the same values in order have 5 at that place.
+    let longer = final_body(rng, 5, 20, &[(1, 9), (2, 1), (3, 3), (4, 5)], &[1, 2]).write();
     base.with(|t| t.body = longer).must(builder, Code::Done, "entry 2 of 4");
 
-    // Sixteen in the queue, then QUEUE; slots of full size this time, filled with other bytes.
+    // Sixteen in the queue, then QUEUE; slots of exactly their size from here on, filled with other bytes.
+    builder.slots(&vec![0xC3; WAITING]);
     builder.fresh_sender(&base_config);
     for k in 0..16u8 {
         let body = report(rng, 7, k + 1, if k % 2 == 0 { 1_000 } else { 2_000 });
