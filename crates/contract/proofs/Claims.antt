@@ -8,6 +8,7 @@ use native.Mathlib.Omega.{arith}
 use borrow.Author.Tests.{ne-eqb}
 use lib.IntN.{pos}
 use lib.ListN.{length}
+use lib.Seq.{getD-set-same, getD-set-other}
 use Rattle.config.specs.Limits.{members, mostDeposits}
 use Rattle.config.specs.Codes.{numberOf, isDone}
 use Rattle.config.specs.declared.Answer.the-variants as answer
@@ -24,15 +25,16 @@ use Rattle.report.specs.Stands.{notFalling, listFault, bitsFault, repeatFault, 
 use Rattle.frame.proofs.Checked.{checked-final}
 use Rattle.report.specs.Newer.{newer}
 use Rattle.report.proofs.Stands.{list-fault-nothing, attested-fault-nothing}
+use Rattle.ledger.specs.declared.Account.{Account}
 use Rattle.ledger.specs.declared.Ledger.{Ledger}
-use Rattle.ledger.specs.Ledger.{accountAt, balances, paidOut, depositing, withdrawing, emptyLedger, covered, earning}
+use Rattle.ledger.specs.Ledger.{noMoney, emptied, accountAt, balances, paidOut, depositing, withdrawing, emptyLedger, covered, earning}
 use Rattle.contract.specs.declared.Terms.{Terms}
 use Rattle.contract.specs.declared.Contract.{Contract}
 use Rattle.contract.specs.State.{goodContract, freshContract, placeOf, goodTerms}
 use Rattle.contract.specs.Calls.{afterReport, afterOld, afterRange, refusalOf, earningAll, paying, accepting, withLedger, depositAnswer, withdrawAnswer, submittedOf, depositedOf, withdrawnOf}
 use Rattle.contract.specs.History.{Call, submits, deposits, withdraws, after, run, paysIn, paysOut, paidIn, payments}
-use Rattle.contract.specs.Claims.{DepositsAddUp, RecordsTheHistory, RefusalChangesNothing, FreshIsGood, GoodStaysGood, AcceptedPassed, DoneSetsTheCommit, NotOlder, CommitOnlyRises, ExactFees}
-use Rattle.contract.proofs.Facts.{contract-facts, good-contract, deposit-passed, submit-passed}
+use Rattle.contract.specs.Claims.{DepositsAddUp, RecordsTheHistory, Recorded, OneResult, RefusalChangesNothing, FreshIsGood, GoodStaysGood, RefusedIsNoContract, answered, Accepted, AcceptedPassed, DoneSetsTheCommit, NotOlder, CommitOnlyRises, ExactFees, PaysTheBalance, WithdrawalPaysTheBalance}
+use Rattle.contract.proofs.Facts.{terms-facts, contract-facts, good-contract, deposit-passed, withdraw-passed, place-within, submit-passed}
 use Rattle.contract.proofs.Fees.{listedIn}
 use Rattle.contract.proofs.Moves.{Moved, moved-none, moved-then, deposit-moved, withdraw-moved, submit-ready, ready-listed, submit-moved}
 use Rattle.contract.proofs.Rises.{newer-trans}
@@ -44,8 +46,28 @@ refusal-changes-nothing c =
     record {
       submit = λ body transmitter time bits h. rw h;
       deposit = λ amount h. rw h;
-      withdraw = λ member h. rw h;
+      withdraw = λ member h. (rw h, rw h);
     }
+
+pub one-result : OneResult
+one-result c t =
+    record {
+      made = λ r r′ e e′. e ∙ sym e′;
+      submit = λ body transmitter time bits r r′ e e′. e ∙ sym e′;
+      deposit = λ amount r r′ e e′. e ∙ sym e′;
+      withdraw = λ member r r′ e e′. e ∙ sym e′;
+    }
+
+-- terms out of range are a state out of range
+terms-refused : (t : Terms) → goodTerms t ≡ false → goodContract (freshContract t) ≡ false
+unfolding goodContract
+terms-refused t h = rw h
+
+pub refused-is-no-contract : RefusedIsNoContract
+unfolding submittedOf refusalOf depositedOf depositAnswer withdrawnOf withdrawAnswer
+refused-is-no-contract t (submits body transmitter time bits) h = rw (terms-refused t h, answered)
+refused-is-no-contract t (deposits amount) h = rw (terms-refused t h, answered)
+refused-is-no-contract t (withdraws member) h = rw (terms-refused t h, answered)
 
 pub accepted-passed : AcceptedPassed
 unfolding submittedOf
@@ -174,6 +196,23 @@ exact-fees c body transmitter time bits member long low high h =
     let sent = earn-share (earningAll (c .ledger) listed fee) transmitter (c .terms .sending) member (omega arith) (omega arith) low (r .own .some) (omega arith) (a .fund) in
     rw h (omega arith)
 
+-- ---- withdrawals
+
+pub withdrawal-pays-the-balance : WithdrawalPaysTheBalance
+unfolding withdrawnOf withdrawing
+withdrawal-pays-the-balance c member long h =
+    let p = withdraw-passed c member h in
+    let g = terms-facts (c .terms) (contract-facts c (p .0) .terms) in
+    let k = place-within (c .terms .n) (c .terms .f) member (g .members) (p .1) in
+    let accounts = c .ledger .accounts in
+    let after = emptied (accountAt accounts (placeOf member)) in
+    record {
+      whole-balance = rw h;
+      emptied-then = rw h (ap (λ (a : Account). a .balance) (getD-set-same accounts (placeOf member) after noMoney (omega arith)));
+      others = λ place apart. rw h (getD-set-other accounts (placeOf member) place after noMoney apart);
+      fund = rw h;
+    }
+
 -- ---- instances: n = 4 and f = 1, with 2 for an observation and 3 for sending
 
 abbrev four : Terms
@@ -214,3 +253,62 @@ three =
 three-accepted : let c = submittedOf (run (freshContract four) history) (attestedBytes three) 1 5 3 in (c .answer ≡ answer.Done) × (c .contract .commit .median ≡ pos 105) × (c .contract .ledger .fund ≡ 91) × (submittedOf (c .contract) (attestedBytes three) 1 6 3 .answer ≡ answer.Old)
 unfolding run depositedOf depositAnswer withdrawnOf withdrawAnswer withdrawing goodContract goodTerms covered balances paidOut numberOf submittedOf refusalOf afterRange afterOld afterReport accepting paying earningAll earning attestedBytes headBytes countedBytes flat observationBytes signerBytes beBytes beNumber beFrom entries bodyAnswer bodyLength shapeOf table messageOf allMembers attestedFault listFault signersFault repeatFault bitsFault notFalling firstAt
 three-accepted = (refl, refl, refl, refl)
+
+-- ---- an instance of each claim
+
+abbrev before : Contract
+before = run (freshContract four) history
+
+-- three of four members may not be faulty
+none-made : (call : Call) → answered (freshContract (record { observing = 2; sending = 3; n = 4; f = 3 })) call ≡ answer.State
+unfolding goodTerms
+none-made call = refused-is-no-contract (record { observing = 2; sending = 3; n = 4; f = 3 }) call refl
+
+four-good : goodContract (freshContract four) ≡ true
+unfolding goodTerms
+four-good = fresh-is-good four refl
+
+history-recorded : Recorded (freshContract four) history
+history-recorded = records-the-history (freshContract four) history refl
+
+five-paid-nothing : (withdrawnOf before 5 .contract ≡ before) × (withdrawnOf before 5 .amount ≡ 0)
+unfolding numberOf
+five-paid-nothing = refusal-changes-nothing before .withdraw 5 (ap isDone (history-answers .3))
+
+three-done : isDone (submittedOf before (attestedBytes three) 1 5 3 .answer) ≡ true
+unfolding numberOf
+three-done = ap isDone (three-accepted .0)
+
+three-passed : Accepted before (attestedBytes three) 3
+three-passed = accepted-passed before (attestedBytes three) 1 5 3 three-done
+
+-- the contract after it
+abbrev later : Contract
+later = after before (submits (attestedBytes three) 1 5 3)
+
+later-commit : later .commit ≡ record { median = pos 105; time = 5; epoch = 7; round = 1 }
+unfolding attestedBytes headBytes countedBytes flat observationBytes signerBytes beBytes beNumber beFrom entries shapeOf table
+later-commit = done-sets-the-commit before (attestedBytes three) 1 5 3 three-done
+
+later-rises : NotOlder before (run before (submits (attestedBytes three) 1 5 3 ∷ []))
+later-rises = commit-only-rises before (submits (attestedBytes three) 1 5 3 ∷ [])
+
+before-long : length (before .ledger .accounts) ≡ members
+before-long = moved-run (freshContract four) history refl .long
+
+later-good : goodContract later ≡ true
+later-good = good-stays-good before (submits (attestedBytes three) 1 5 3) before-long hundred-good
+
+-- member 1 observed and sent it, member 4 did neither
+later-balances : (accountAt (later .ledger .accounts) (placeOf 1) .balance ≡ 5) × (accountAt (later .ledger .accounts) (placeOf 4) .balance ≡ 0)
+unfolding run depositedOf depositAnswer withdrawnOf withdrawAnswer withdrawing goodContract goodTerms covered balances paidOut numberOf attestedBytes headBytes countedBytes flat observationBytes signerBytes beBytes beNumber beFrom entries shapeOf table
+later-balances =
+    (exact-fees before (attestedBytes three) 1 5 3 1 before-long (omega arith) (omega arith) three-done, exact-fees before (attestedBytes three) 1 5 3 4 before-long (omega arith) (omega arith) three-done)
+
+-- member 1 is paid its 5, and the others keep theirs
+later-withdraws : isDone (withdrawnOf later 1 .answer) ≡ true
+unfolding run depositedOf depositAnswer withdrawnOf withdrawAnswer withdrawing goodContract goodTerms covered balances paidOut numberOf submittedOf refusalOf afterRange afterOld afterReport accepting paying earningAll earning attestedBytes headBytes countedBytes flat observationBytes signerBytes beBytes beNumber beFrom entries bodyAnswer bodyLength shapeOf table messageOf allMembers attestedFault listFault signersFault repeatFault bitsFault notFalling firstAt
+later-withdraws = refl
+
+later-pays : PaysTheBalance later 1
+later-pays = withdrawal-pays-the-balance later 1 (moved-call before (submits (attestedBytes three) 1 5 3) before-long .long ∙ before-long) later-withdraws

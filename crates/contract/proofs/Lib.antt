@@ -4,4 +4,5 @@ pub mod Fees
 pub mod Moves
 pub mod Shares
 pub mod Rises
+pub mod Listed
 pub mod Claims

@@ -2,12 +2,14 @@
 use mathlib.Core.Path.{_≡_}
 use mathlib.Core.Bool.{true, false, cond}
 use mathlib.Core.Logic.{_⊎_}
-use mathlib.Core.List.{List}
+use mathlib.Core.List.{List, [], _∷_}
 use Prim.Native.Nat.{ℕ, _+_, _≤_}
 use lib.Dec.{eqb}
 use lib.ListN.{length}
 use Rattle.config.specs.Limits.{members}
-use Rattle.config.specs.Codes.{isDone}
+use Rattle.config.specs.Codes.{numberOf, isDone}
+use Rattle.config.specs.declared.Answer.{Answer}
+use Rattle.config.specs.declared.Answer.the-variants as answer
 use Rattle.quorum.specs.First.{among}
 use Rattle.price.specs.Median.{medianOf}
 use Rattle.frame.specs.Decode.{attestedIn}
@@ -16,10 +18,14 @@ use Rattle.report.specs.Stands.{membersOf, valuesOf, attestedFault}
 use Rattle.report.specs.Newer.{newer}
 use Rattle.contract.specs.declared.Terms.{Terms}
 use Rattle.contract.specs.declared.Contract.{Contract}
+use Rattle.contract.specs.declared.Made.{Made}
+use Rattle.contract.specs.declared.Submitted.{Submitted}
+use Rattle.contract.specs.declared.Deposited.{Deposited}
+use Rattle.contract.specs.declared.Withdrawn.{Withdrawn}
 use Rattle.contract.specs.State.{goodTerms, goodContract, freshContract, placeOf}
 use Rattle.ledger.specs.Ledger.{accountAt, balances, paidOut}
-use Rattle.contract.specs.Calls.{submittedOf, depositedOf, withdrawnOf}
-use Rattle.contract.specs.History.{Call, after, run, paidIn, payments}
+use Rattle.contract.specs.Calls.{madeOf, submittedOf, depositedOf, withdrawnOf}
+use Rattle.contract.specs.History.{Call, submits, deposits, withdraws, after, run, paidIn, payments}
 
 -- "Deposits in the history equal fund plus balances plus payments in the history." Of a fresh contract, after any calls, refused ones among them.
 abbrev pub DepositsAddUp : Type 0
@@ -34,11 +40,39 @@ pub record Recorded (c : Contract) (calls : List Call) : Type 0 where
 abbrev pub RecordsTheHistory : Type 0
 RecordsTheHistory = (c : Contract) (calls : List Call) → length (c .ledger .accounts) ≡ members → Recorded c calls
 
--- A refusal changes nothing.
+-- Each call ends with an answer that document 01 lists for it: a submission 0, 2, 8, 9, 13 to 17, 7 and 18, a deposit 0, 2 and 9, a withdrawal 0, 2 and 7; making a contract 0 and 12.
+abbrev pub answered : Contract → Call → Answer
+answered c (submits body transmitter time bits) = submittedOf c body transmitter time bits .answer
+answered c (deposits amount) = depositedOf c amount .answer
+answered c (withdraws member) = withdrawnOf c member .answer
+
+abbrev pub listed : Call → List ℕ
+listed (submits body transmitter time bits) = 0 ∷ 2 ∷ 8 ∷ 9 ∷ 13 ∷ 14 ∷ 15 ∷ 16 ∷ 17 ∷ 7 ∷ 18 ∷ []
+listed (deposits amount) = 0 ∷ 2 ∷ 9 ∷ []
+listed (withdraws member) = 0 ∷ 2 ∷ 7 ∷ []
+
+pub record Listed (c : Contract) (call : Call) (t : Terms) : Type 0 where
+  pub call-listed : among (numberOf (answered c call)) (listed call) ≡ true
+  pub fresh : among (numberOf (madeOf t .answer)) (0 ∷ 12 ∷ []) ≡ true
+
+abbrev pub AnswersAreListed : Type 0
+AnswersAreListed = (c : Contract) (call : Call) (t : Terms) → Listed c call t
+
+-- What one promise allows is one result.
+pub record OneEach (c : Contract) (t : Terms) : Type 0 where
+  pub made : (r r′ : Made) → r ≡ madeOf t → r′ ≡ madeOf t → r ≡ r′
+  pub submit : (body : List ℕ) (transmitter time bits : ℕ) (r r′ : Submitted) → r ≡ submittedOf c body transmitter time bits → r′ ≡ submittedOf c body transmitter time bits → r ≡ r′
+  pub deposit : (amount : ℕ) (r r′ : Deposited) → r ≡ depositedOf c amount → r′ ≡ depositedOf c amount → r ≡ r′
+  pub withdraw : (member : ℕ) (r r′ : Withdrawn) → r ≡ withdrawnOf c member → r′ ≡ withdrawnOf c member → r ≡ r′
+
+abbrev pub OneResult : Type 0
+OneResult = (c : Contract) (t : Terms) → OneEach c t
+
+-- A refusal changes nothing, and pays nothing.
 pub record Unchanged (c : Contract) : Type 0 where
   pub submit : (body : List ℕ) (transmitter time bits : ℕ) → isDone (submittedOf c body transmitter time bits .answer) ≡ false → submittedOf c body transmitter time bits .contract ≡ c
   pub deposit : (amount : ℕ) → isDone (depositedOf c amount .answer) ≡ false → depositedOf c amount .contract ≡ c
-  pub withdraw : (member : ℕ) → isDone (withdrawnOf c member .answer) ≡ false → withdrawnOf c member .contract ≡ c
+  pub withdraw : (member : ℕ) → isDone (withdrawnOf c member .answer) ≡ false → (withdrawnOf c member .contract ≡ c) × (withdrawnOf c member .amount ≡ 0)
 
 abbrev pub RefusalChangesNothing : Type 0
 RefusalChangesNothing = (c : Contract) → Unchanged c
@@ -49,6 +83,10 @@ FreshIsGood = (t : Terms) → goodTerms t ≡ true → goodContract (freshContra
 
 abbrev pub GoodStaysGood : Type 0
 GoodStaysGood = (c : Contract) (call : Call) → length (c .ledger .accounts) ≡ members → goodContract c ≡ true → goodContract (after c call) ≡ true
+
+-- A contract that could not be made is of no use: every call of it is answered STATE.
+abbrev pub RefusedIsNoContract : Type 0
+RefusedIsNoContract = (t : Terms) (call : Call) → goodTerms t ≡ false → answered (freshContract t) call ≡ answer.State
 
 -- Each accepted report passed checks 14 to 17 and was newer than the one before it.
 pub record Accepted (c : Contract) (body : List ℕ) (bits : ℕ) : Type 0 where
@@ -80,3 +118,14 @@ earned c listed transmitter member = cond (among member listed) (c .terms .obser
 abbrev pub ExactFees : Type 0
 ExactFees =
     (c : Contract) (body : List ℕ) (transmitter time bits member : ℕ) → length (c .ledger .accounts) ≡ members → 1 ≤ member → member ≤ members → isDone (submittedOf c body transmitter time bits .answer) ≡ true → accountAt (submittedOf c body transmitter time bits .contract .ledger .accounts) (placeOf member) .balance ≡ accountAt (c .ledger .accounts) (placeOf member) .balance + earned c (membersOf (attestedIn body .list)) transmitter member
+
+-- "Withdrawal pays the whole balance": one that is DONE pays what the account has, and leaves nothing in it; the fund and every other account stay.
+pub record PaysTheBalance (c : Contract) (member : ℕ) : Type 0 where
+  pub whole-balance : withdrawnOf c member .amount ≡ accountAt (c .ledger .accounts) (placeOf member) .balance
+  pub emptied-then : accountAt (withdrawnOf c member .contract .ledger .accounts) (placeOf member) .balance ≡ 0
+  pub others : (place : ℕ) → (place ≡ placeOf member → ⊥) → accountAt (withdrawnOf c member .contract .ledger .accounts) place ≡ accountAt (c .ledger .accounts) place
+  pub fund : withdrawnOf c member .contract .ledger .fund ≡ c .ledger .fund
+
+abbrev pub WithdrawalPaysTheBalance : Type 0
+WithdrawalPaysTheBalance =
+    (c : Contract) (member : ℕ) → length (c .ledger .accounts) ≡ members → isDone (withdrawnOf c member .answer) ≡ true → PaysTheBalance c member

@@ -1,18 +1,21 @@
 -- The claims of specs/Claims.antt, each proved, and instances that compute.
+use mathlib.Core.Bool.{Bool, true, false, not, cond, _&&_}
 use mathlib.Core.List.{[], _∷_}
 use mathlib.Core.Path.{_≡_, refl}
-use Prim.Native.Nat.{ℕ}
+use Prim.Native.Nat.{ℕ, _≤_, zero-le}
 use native.Mathlib.Omega.{arith}
-use lib.ListN.{length-replicate}
-use Rattle.config.specs.Limits.{frameSize, keptSize, signaturesSize}
+use lib.Dec.{eqb}
+use lib.ListN.{length, length-append, length-replicate}
+use Rattle.config.specs.Limits.{lastEpoch, frameSize, keptSize, signaturesSize}
 use Rattle.config.specs.Bounds.{noneEmpty, sum, goodFeed, goodConfig}
-use Rattle.config.specs.Codes.{numberOf}
+use Rattle.config.specs.Codes.{numberOf, isDone}
 use Rattle.node.specs.Calls.{freshOf, restoreOf, restoreAnswer}
 use Rattle.epochline.specs.Decimal.{decimalFrom, allDigits, valueFrom, isNumber}
-use Rattle.epochline.specs.Lines.{linesFrom, spaceIn, configIn}
-use Rattle.epochline.specs.Output.{noConfiguration, outputOf}
-use Rattle.epochline.specs.Claims.{BytesMakeTheOutput, DecimalIsRead, workedInput, workedOutput}
-use Rattle.epochline.proofs.Decimals.{decimal-read}
+use Rattle.epochline.specs.Lines.{newline, linesFrom, spaceIn, commandOf, configIn}
+use Rattle.epochline.specs.Output.{fourNumbers, printedSize, printed, noConfiguration, ends, outputOf}
+use Rattle.epochline.specs.Machine.{Machine, Turn, first, going, lineOf, firstTurn, laterTurn, lineTurn, byteTurn, endTurn}
+use Rattle.epochline.specs.Claims.{BytesMakeTheOutput, PrintsAreShort, DecimalIsRead, workedInput, workedOutput}
+use Rattle.epochline.proofs.Decimals.{decimal-read, decimal-short, decimal-number}
 use Rattle.epochline.proofs.Machine.{machine-whole}
 use Rattle.epochline.proofs.Worked.{later-lines}
 
@@ -20,7 +23,38 @@ pub bytes-make-the-output : BytesMakeTheOutput
 bytes-make-the-output = machine-whole
 
 pub decimal-is-read : DecimalIsRead
-decimal-is-read x h = decimal-read 10 x (omega arith)
+decimal-is-read x h = record { shape = decimal-number x lastEpoch (omega arith) h; value = decimal-read 10 x (omega arith) }
+
+-- ---- what is printed at once
+
+four-short : (a b c d : ℕ) → length (fourNumbers a b c d) ≤ printedSize
+four-short a b c d =
+    let p = decimal-short 10 a in
+    let q = decimal-short 10 b in
+    let r = decimal-short 10 c in
+    let s = decimal-short 10 d in
+    simp length-append (omega arith)
+
+either-short : (t : Bool) (u v : Turn) → length (u .prints) ≤ printedSize → length (v .prints) ≤ printedSize → length (cond t u v .prints) ≤ printedSize
+either-short true u v p q = p
+either-short false u v p q = q
+
+line-short : (m : Machine) → length (lineTurn m .prints) ≤ printedSize
+unfolding lineTurn firstTurn laterTurn noConfiguration printed
+line-short m =
+    either-short (eqb (m .program .phase) first) _ _
+    (either-short (isDone (freshOf (configIn (lineOf (m .program))) .answer)) _ _ zero-le (four-short 12 0 0 0))
+    (either-short (eqb (m .program .phase) going) _ _
+    (either-short (ends (commandOf (lineOf (m .program)))) _ _ zero-le (four-short _ _ _ _))
+    zero-le)
+
+pub prints-are-short : PrintsAreShort
+unfolding byteTurn endTurn
+prints-are-short m =
+    record {
+      byte = λ b. either-short (eqb b newline) _ _ (line-short m) zero-le;
+      last = either-short (eqb (m .program .len) 0 && not (eqb (m .program .phase) first)) _ _ zero-le (line-short m);
+    }
 
 -- ---- instances that compute
 

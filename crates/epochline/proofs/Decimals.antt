@@ -1,12 +1,12 @@
 -- The laws of decimals: what their digits are, how many there are, and what number they say.
-use mathlib.Core.Bool.{Bool, true, false, not, cond, _&&_, _||_, and-assoc}
+use mathlib.Core.Bool.{Bool, true, false, not, cond, _&&_, _||_, and-assoc, or-true}
 use mathlib.Core.List.{List, [], _∷_, _++_}
 use mathlib.Core.Path.{_≡_, refl, ap, ap₂, _∙_}
 use Prim.Native.Nat.{ℕ, zero, suc, _+_, _-_, _*_, _/_, _%_, _^_, _≤_, _<_}
 use native.Mathlib.Numerals.{add-one}
 use native.Mathlib.Nat.{pow-suc, pow-succ', div-div-eq-div-mul}
 use native.Mathlib.Omega.{arith}
-use borrow.Author.Tests.{ltb-true, ltb-false, leb-true, le-leb, lt-leb, not-true}
+use borrow.Author.Tests.{ltb-true, ltb-false, leb-true, le-leb, lt-leb, ne-eqb, not-true}
 use lib.Dec.{leb, ltb, eqb}
 use lib.ListN.{length, getD, drop, set, length-append, List·getD-append}
 use lib.Seq.{drop-cons, getD-at}
@@ -138,6 +138,45 @@ decimal-read (suc places) x h =
     let ih = decimal-read places (x / 10) (omega arith) in
     decimal-cases (λ l. valueFrom 0 l ≡ x) places x (λ _. omega arith) (λ _. rw valueFrom-snoc (omega arith))
 
+-- no more digits than places
+pub decimal-short : (places x : ℕ) → length (decimalFrom places x) ≤ places
+unfolding decimalFrom
+decimal-short zero x = omega arith
+decimal-short (suc places) x =
+    let ih = decimal-short places (x / 10) in
+    decimal-cases (λ l. length l ≤ suc places) places x (λ _. omega arith) (λ _. rw length-snoc (omega arith))
+
+-- digits, the first of them a 0 only where the number is
+record Plain (x : ℕ) (l : List ℕ) : Type 0 where
+  some : 1 ≤ length l
+  digits : allDigits l ≡ true
+  first : 0 < x → 49 ≤ getD l 0 0
+
+digits-snoc : (l : List ℕ) (d : ℕ) → d < 10 → allDigits l ≡ true → allDigits (l ++ ((48 + d) ∷ [])) ≡ true
+unfolding allDigits
+digits-snoc [] d h e = rw (le-leb 48 (48 + d) (omega arith), le-leb (48 + d) 57 (omega arith))
+digits-snoc (b ∷ l) d h e =
+    let (p, q) = and-true (leb 48 b && leb b 57) (allDigits l) e in
+    rw (p, digits-snoc l d h q)
+
+plain-one : (x : ℕ) → x < 10 → Plain x ((48 + x) ∷ [])
+unfolding allDigits
+plain-one x h = record { some = omega arith; digits = digits-snoc [] x h refl; first = λ g. omega arith }
+
+decimal-plain : (places x : ℕ) → x < 10 ^ suc places → Plain x (decimalFrom (suc places) x)
+decimal-plain zero x h = decimal-cases (Plain x) zero x (plain-one x) (λ high. absurd (omega arith))
+decimal-plain (suc k) x h =
+    let g : x < 10 ^ suc k * 10 = rw (← pow-suc 10 (suc k)) h in
+    let l = decimalFrom (suc k) (x / 10) in
+    let ih = decimal-plain k (x / 10) (omega arith) in
+    decimal-cases (Plain x) (suc k) x (plain-one x)
+    (λ high.
+    record {
+      some = rw length-snoc (omega arith);
+      digits = digits-snoc l (x % 10) (omega arith) (ih .digits);
+      first = λ _. rw (List·getD-append l ((48 + x % 10) ∷ []) 0 0 (ih .some)) (ih .first (omega arith));
+    })
+
 -- ---- what a number is
 
 pub record Number (places limit : ℕ) (l : List ℕ) : Type 0 where
@@ -173,3 +212,15 @@ pub sized : (n places : ℕ) → (ltb n 1 || ltb places n) ≡ false → (1 ≤ 
 sized n places e =
     let (p, q) = and-true (not (ltb n 1)) (not (ltb places n)) (neither (ltb n 1) (ltb places n) ∙ ap not e) in
     (ltb-false n 1 (not-true (ltb n 1) p), ltb-false places n (not-true (ltb places n) q))
+
+no-zero : (x : ℕ) → Plain x (decimal x) → (eqb (length (decimal x)) 1 || not (eqb (getD (decimal x) 0 0) 48)) ≡ true
+unfolding decimalFrom
+no-zero zero p = refl
+no-zero (suc x) p = rw (ne-eqb (getD (decimal (suc x)) 0 0) 48 (λ z. omega (arith, p .first (omega arith)))) (or-true (eqb (length (decimal (suc x))) 1))
+
+pub decimal-number : (x limit : ℕ) → x < 10 ^ 10 → x ≤ limit → isNumber 10 limit (decimal x) ≡ true
+unfolding isNumber
+decimal-number x limit h g =
+    let p = decimal-plain 9 x h in
+    let l = decimal x in
+    rw (le-leb 1 (length l) (p .some), le-leb (length l) 10 (decimal-short 10 x), p .digits, no-zero x p, le-leb (valueOf l) limit (rw (decimal-read 10 x h) g))

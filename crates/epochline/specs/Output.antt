@@ -1,7 +1,7 @@
 -- Document 01, the epoch program: what it prints, from the bytes of its input to the bytes of its output.
 use mathlib.Core.Bool.{Bool, true, false, cond}
 use mathlib.Core.List.{List, [], _∷_, _++_}
-use Prim.Native.Nat.{ℕ}
+use Prim.Native.Nat.{ℕ, _+_, _*_}
 use lib.Dec.{eqb}
 use lib.IntN.{pos}
 use lib.ListN.{replicate}
@@ -19,7 +19,7 @@ use Rattle.node.specs.Event.{Whole, whole, delivery, Event, starts, delivers, f
 use Rattle.node.specs.Calls.{freshOf, Out, called}
 use Rattle.epochline.specs.declared.Command.{Command}
 use Rattle.epochline.specs.declared.Command.the-variants.{Start, Heard, Progress, Other}
-use Rattle.epochline.specs.Decimal.{decimal}
+use Rattle.epochline.specs.Decimal.{mostDigits, decimal}
 use Rattle.epochline.specs.Lines.{newline, space, linesOf, commandOf, configIn}
 
 -- ---- a run of the node
@@ -59,6 +59,10 @@ onward o = running (o .result .node) (o .outbox) (o .kept) (o .signatures)
 -- four numbers, one space apart, and a newline
 abbrev pub fourNumbers : ℕ → ℕ → ℕ → ℕ → List ℕ
 fourNumbers a b c d = decimal a ++ (space ∷ decimal b ++ (space ∷ decimal c ++ (space ∷ decimal d ++ (newline ∷ []))))
+
+-- as many bytes as they have at most
+abbrev pub printedSize : ℕ
+printedSize = 4 * (mostDigits + 1)
 
 -- "leader (0 for none)": there is none where there are no members
 abbrev pub leaderShown : Node → ℕ

@@ -13,14 +13,14 @@ use mir.Syntax.{w64}
 use mir.Val.{SFits}
 use Rattle.config.specs.Limits.{signatureSize}
 use Rattle.wire.specs.Numbers.{Bytes, beFrom, beNumber, beBytes}
-use Rattle.wire.proofs.Numbers.{bytes-replicate, bytes-beBytes}
+use Rattle.wire.proofs.Numbers.{bytes-cons, bytes-append, bytes-replicate, bytes-beBytes}
 use Rattle.frame.specs.Message.{Observation, Signed, Signer, Attested, Message, newEpoch, observeReq, observe, reportReq, report, final, finalEcho, kindOf, blank, bareSigned, bareSigner, bareAttested, bare}
 use Rattle.frame.specs.Table.{goodKind, versionOf, shapeOf, bodyLength}
 use Rattle.frame.specs.Encode.{attestedBytes, bodyBytes, trailerBytes, frameBytes}
-use Rattle.frame.specs.Decode.{observationAt, signerAt, countIn, listPlace, listEnd, signerCountIn, attestedIn, trailerPlace, lengthIn, kindIn, bodyIn, messageOf}
+use Rattle.frame.specs.Decode.{observationAt, signerAt, countIn, listPlace, listEnd, signerCountIn, attestedIn, trailerPlace, lengthIn, kindIn, bodyIn, messageOf, messageIn}
 use Rattle.frame.specs.Range.{allMembers, goodEpoch, goodRound, goodObservations, goodMessage}
 use Rattle.frame.specs.Check.{bodyAnswer, afterSender, afterKind, afterVersion, afterShort, frameAnswer}
-use Rattle.frame.specs.Claims.{WritableSignature, Each, WritableSigned, WritableAttested, Writable, ReadAs, WrittenIsRead, ReadIsWritten, ReadAlikeIsOne, FinalAtTheStart, FinalIsOne, BodyIsOne, Bared, BareIsBare, ReadIsGood}
+use Rattle.frame.specs.Claims.{WritableSignature, Each, WritableSigned, WritableAttested, Writable, ReadAs, WrittenIsRead, ReadIsWritten, ReadAlikeIsOne, FinalAtTheStart, FinalIsOne, BodyIsOne, Bared, BareIsBare, ReadWell, ReadIsGood}
 use Rattle.frame.proofs.Ranges.{good-entries-map, good-attested-facts}
 use Rattle.frame.proofs.Entries.{length-entries, bytes-part, signed-entry}
 use Rattle.frame.proofs.RoundTrip.{length-counted, length-attested, attested-front, attested-forth, attested-good, body-back, Said, body-forth}
@@ -144,6 +144,25 @@ seven = 0 ∷ 0 ∷ 0 ∷ 7 ∷ 1 ∷ 2 ∷ 0 ∷ 1 ∷ 0 ∷ 0 ∷ 0 ∷ 4 ∷ 
 new-epoch-seven : (frameBytes 4 5 2 (newEpoch 7) ≡ seven) × ReadAs seven 4 5 2 (newEpoch 7)
 unfolding frameBytes bodyBytes trailerBytes beBytes beNumber beFrom frameAnswer afterShort afterVersion afterKind afterSender bodyAnswer bodyLength messageOf
 new-epoch-seven = (refl, record { passes = refl; says = refl })
+
+-- it is the one frame that says so, and what it says is in range
+seven-bytes : Bytes seven
+unfolding beBytes
+seven-bytes =
+    let behind = beBytes 4 4 ++ beBytes 8 5 in
+    let numbers = beBytes 2 1 ++ behind in
+    bytes-append (beBytes 4 7) (1 ∷ 2 ∷ numbers) (bytes-beBytes 4 7)
+    (bytes-cons 1 (2 ∷ numbers) (lit< tt)
+    (bytes-cons 2 numbers (lit< tt) (bytes-append (beBytes 2 1) behind (bytes-beBytes 2 1) (bytes-append (beBytes 4 4) (beBytes 8 5) (bytes-beBytes 4 4) (bytes-beBytes 8 5)))))
+
+seven-is-one : seven ≡ frameBytes 4 5 2 (newEpoch 7)
+seven-is-one = read-is-written seven 4 5 2 seven-bytes (new-epoch-seven .1 .passes) ∙ ap (frameBytes 4 5 2) (new-epoch-seven .1 .says)
+
+alone : (f : List ℕ) → Bytes f → ReadAs f 4 5 2 (newEpoch 7) → f ≡ seven
+alone f h r = read-alike-is-one f seven 4 5 2 h seven-bytes (r .passes) (new-epoch-seven .1 .passes) (r .says ∙ sym (new-epoch-seven .1 .says))
+
+seven-read-well : ReadWell 4 (messageIn seven)
+seven-read-well = read-is-good seven 4 5 2 seven-bytes (new-epoch-seven .1 .passes)
 
 abbrev ReadBack : Message → Type 0
 ReadBack m = ReadAs (frameBytes 4 5 2 m) 4 5 2 m

@@ -1,7 +1,7 @@
 -- Instances of the claims over one step: n = 4 and f = 1, of whom this node is member 2. It starts, is moved to epoch 1, which it leads, takes observations and asks for reports.
 use mathlib.Core.Path.{_≡_, refl, sym, ap, ap₂, _∙_}
 use mathlib.Core.Bool.{Bool, true, _&&_}
-use mathlib.Core.List.{List, [], _∷_, _++_, append-nil}
+use mathlib.Core.List.{List, [], _∷_, _++_, map, append-nil}
 use Prim.Native.Nat.{ℕ, _+_, _-_, zero-le}
 use native.Mathlib.Omega.{arith}
 use borrow.Author.Tests.{ltb-true}
@@ -20,22 +20,25 @@ use Rattle.wire.specs.Numbers.{Bytes, part, beFrom, beNumber, beBytes}
 use Rattle.wire.specs.Overlay.{over}
 use Rattle.wire.proofs.Numbers.{bytes-cons, bytes-replicate}
 use Rattle.wire.proofs.Overlay.{length-over, over-eq}
-use Rattle.quorum.specs.First.{among}
+use Rattle.price.specs.Due.{shouldReport}
+use Rattle.quorum.specs.First.{firstAt, among}
 use Rattle.quorum.specs.Marks.{flags}
-use Rattle.frame.specs.Message.{Message, newEpoch, observeReq, observe, reportReq, blank}
-use Rattle.frame.specs.Table.{bodyLength}
-use Rattle.frame.specs.Encode.{headBytes, bodyBytes, trailerBytes, frameBytes}
-use Rattle.frame.specs.Decode.{messageOf}
+use Rattle.frame.specs.Message.{Observation, Signed, Message, newEpoch, observeReq, observe, reportReq, report, blank}
+use Rattle.frame.specs.Table.{shapeOf, bodyLength}
+use Rattle.frame.specs.Encode.{observationBytes, signedBytes, flat, headBytes, countedBytes, bodyBytes, trailerBytes, frameBytes}
+use Rattle.frame.specs.Decode.{entries, messageOf}
+use Rattle.frame.specs.Range.{allMembers}
 use Rattle.frame.specs.Check.{bodyAnswer, afterSender, afterKind, afterVersion, afterShort, frameAnswer}
 use Rattle.frame.specs.Claims.{ReadAs}
 use Rattle.outbox.specs.Written.{ownFrame, ownSignature, signedObservations}
+use Rattle.report.specs.Stands.{notFalling, listFault, bitsFault}
 use Rattle.pacemaker.specs.declared.Pace.{Pace}
 use Rattle.pacemaker.specs.State.{goodPace}
 use Rattle.pacemaker.specs.Rules as pacemaker
 use Rattle.follower.specs.declared.Follower.{Follower}
 use Rattle.follower.specs.State.{goodFollower, inRound}
 use Rattle.follower.specs.Takes.{verdictOf}
-use Rattle.follower.specs.Rules.{requested}
+use Rattle.follower.specs.Rules.{requested, asked as asked-for}
 use Rattle.leader.specs.declared.Leader.{Leader}
 use Rattle.leader.specs.State.{collecting, inGrace, goodLeader, emptyRound, noRound}
 use Rattle.leader.specs.Listed.{markedUpTo, order}
@@ -46,12 +49,12 @@ use Rattle.node.specs.State.{restoredNode, nothingSaved, goodNode, goodK
 use Rattle.node.specs.Event.{Whole, whole, Delivery, delivery, Event, starts, delivers, fires, done}
 use Rattle.node.specs.Answers.{startAnswer, firing, ending, timerAnswer, followerAnswer, leaderAnswer, messageAnswer, deliveryAnswer, afterState, answerTo}
 use Rattle.node.specs.Effects.{pacing, begun, moving, hearing, following, leading, effectOf}
-use Rattle.node.specs.Calls.{restoreAnswer, step, framesOf, settled, called}
+use Rattle.node.specs.Calls.{restoreAnswer, step, framesOf, settled, called, unarmedOf}
 use Rattle.node.specs.Runs.{after, run}
 use Rattle.node.specs.Typed.{TypedWhole, TypedDelivery, TypedEvents}
-use Rattle.node.specs.Claims.{Unchanged, Sized, listed, FewSent, AnswersRequest, Armed}
+use Rattle.node.specs.Claims.{Unchanged, Sized, listed, FewSent, AnswersRequest, AnswersList, Armed}
 use Rattle.node.proofs.Steps.{refusal-changes-nothing, refused-is-no-node, made-is-good, new-epoch-is-taken, call-is-the-step}
-use Rattle.node.proofs.Listed.{answers-are-listed}
+use Rattle.node.proofs.Listed.{unarmed-changes-nothing, answers-are-listed}
 use Rattle.node.proofs.Sent.{new-epoch-goes-first, signs-only-what-it-answers}
 use Rattle.node.proofs.Written.{sent-is-read, frames-stand}
 use Rattle.node.proofs.Closed.{good-stays-good}
@@ -282,6 +285,27 @@ third-stands =
 request-signed : AnswersRequest request 1 1 (pos 105) ownSignature
 request-signed = (rw request-answered at (signs-only-what-it-answers moved (delivers request) (effectOf moved (delivers request)) request-done)) .0
 
+-- in round 1 the leader lists three observations, whose signatures verified: nothing is committed yet, so the node reports them
+abbrev in-first : Whole
+in-first = lent (in-epoch (inRound 1 1) (emptyRound collecting 1 1))
+
+abbrev three : List Signed
+three = map (λ (o : Observation). record { said = o; signature = blank }) (record { member = 3; value = pos 100 } ∷ record { member = 4; value = pos 105 } ∷ record { member = 1; value = pos 107 } ∷ [])
+
+listing : Delivery
+listing = delivery 2 0 (pos 105) none 7 (ownFrame (member 2) (reportReq 1 1 three))
+
+listing-done : step in-first (delivers listing) ≡ done (effectOf in-first (delivers listing))
+unfolding listing afterState goodState goodNode goodConfig goodFeed noneEmpty sum goodPace goodFollower goodLeader flags goodKept deliveryAnswer messageAnswer frameAnswer afterShort afterVersion afterKind afterSender bodyAnswer bodyLength shapeOf messageOf entries frameBytes bodyBytes countedBytes flat signedBytes observationBytes headBytes trailerBytes beBytes beNumber beFrom allMembers numberOf followerAnswer verdictOf listFault notFalling bitsFault firstAt
+listing-done = passed in-first (delivers listing) refl
+
+listing-answered : effectOf in-first (delivers listing) .sent ≡ report 1 1 (map (λ (x : Signed). x .said) three) ownSignature ∷ []
+unfolding listing shapeOf messageOf entries frameBytes bodyBytes countedBytes flat signedBytes observationBytes headBytes trailerBytes beBytes beNumber beFrom following asked-for shouldReport
+listing-answered = refl
+
+listing-signed : AnswersList listing 1 1 (map (λ (x : Signed). x .said) three) ownSignature
+listing-signed = (rw listing-answered at (signs-only-what-it-answers in-first (delivers listing) (effectOf in-first (delivers listing)) listing-done)) .0
+
 -- the request for reports is read back too
 pub graced-sized : Sized graced
 graced-sized = record { kept = lit≤ tt; signatures = simp length-over (lit≤ tt) }
@@ -292,3 +316,8 @@ grace-is-read = (rw grace-asks at (sent-is-read graced (fires fired.Grace 0) (ef
 -- T_grace that is not armed is IGNORED, which is listed
 unarmed-listed : among (numberOf (called moved (fires fired.Grace 0) outbox 0 .result .answer)) (listed (fires fired.Grace 0)) ≡ true
 unarmed-listed = answers-are-listed moved (fires fired.Grace 0) outbox 0 (member 2) nothingSaved .call
+
+-- so is a timer that is none of the four
+none-of-four : called moved (fires fired.Grace 0) outbox 0 ≡ unarmedOf (moved .node) 0 outbox 0 (moved .kept) (moved .signatures)
+unfolding firing
+none-of-four = unarmed-changes-nothing moved 0 outbox 0 .same fired.Grace refl

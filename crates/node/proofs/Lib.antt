@@ -19,8 +19,8 @@ pub mod Epochs
 pub mod Observations
 pub mod Order
 pub mod Calls
-pub mod Rounds
 pub mod Bodies
+pub mod Rounds
 pub mod Kept
 pub mod Handed
 pub mod Instances

@@ -1,6 +1,6 @@
 -- Each call ends with an answer that document 01 lists for it: every test of a call's checks hands on one of two answers, and both are listed.
-use mathlib.Core.Path.{_≡_, refl}
-use mathlib.Core.Bool.{Bool, true, false, not, cond, _&&_, _||_}
+use mathlib.Core.Path.{_≡_, refl, sym, ap, _∙_}
+use mathlib.Core.Bool.{Bool, false, not, _&&_, _||_, false≢true}
 use mathlib.Core.List.{List, [], _∷_}
 use Prim.Native.Nat.{ℕ, _+_}
 use lib.Dec.{eqb, leb, ltb}
@@ -11,12 +11,15 @@ use Rattle.config.specs.declared.Answer.{Answer}
 use Rattle.config.specs.declared.Answer.the-variants as answer
 use Rattle.config.specs.declared.Config.{Config}
 use Rattle.config.specs.declared.Saved.{Saved}
+use Rattle.config.proofs.Facts.{done-only}
 use Rattle.quorum.specs.First.{among}
+use Rattle.quorum.proofs.Cases.{test-false}
 use Rattle.frame.specs.Message.{Message, newEpoch, observeReq, observe, reportReq, report, final, finalEcho}
 use Rattle.frame.specs.Table.{goodKind, versionOf, trailerLength}
 use Rattle.frame.specs.Decode.{kindIn, senderIn, versionIn, lengthIn, numberIn, bodyIn, messageOf, messageIn}
 use Rattle.frame.specs.Range.{goodMessage}
 use Rattle.frame.specs.Check.{goodLength, bodyAnswer, afterSender, afterKind, afterVersion, afterShort, tooShort, frameAnswer}
+use Rattle.report.proofs.Listed.{In, either-in}
 use Rattle.pacemaker.specs.State.{isStarted}
 use Rattle.pacemaker.specs.Rules as pacemaker
 use Rattle.follower.specs.declared.Verdict.{Verdict}
@@ -24,19 +27,13 @@ use Rattle.follower.specs.declared.Verdict.the-variants.{Ignored, Wrong, Taken}
 use Rattle.follower.specs.Takes.{verdictOf, answerOf}
 use Rattle.leader.specs.Takes as leader
 use Rattle.node.specs.declared.Node.{Node}
+use Rattle.node.specs.declared.Fired.{Fired}
 use Rattle.node.specs.State.{nothingSaved, epochOf, leaderNow, leads, goodState}
 use Rattle.node.specs.Event.{Delivery, Event, starts, delivers, fires}
-use Rattle.node.specs.Answers.{startAnswer, firing, ending, timerAnswer, followerAnswer, leaderAnswer, ruleAnswer, pastLast, messageAnswer, deliveryAnswer, eventAnswer, afterState}
-use Rattle.node.specs.Calls.{restoreAnswer, restoreOf, freshOf, inRoom}
-use Rattle.node.specs.Claims.{listed, AnswersAreListed}
-use Rattle.node.proofs.Steps.{called-answer}
-
-abbrev In : List ℕ → Answer → Type 0
-In l a = among (numberOf a) l ≡ true
-
-either-in : (l : List ℕ) (t : Bool) (a b : Answer) → In l a → In l b → In l (cond t a b)
-either-in l true a b p q = p
-either-in l false a b p q = q
+use Rattle.node.specs.Answers.{startAnswer, firing, ending, timerAnswer, unarmedAnswer, followerAnswer, leaderAnswer, ruleAnswer, pastLast, messageAnswer, deliveryAnswer, eventAnswer, afterState}
+use Rattle.node.specs.Calls.{restoreAnswer, restoreOf, freshOf, out, refusing, inRoom}
+use Rattle.node.specs.Claims.{listed, UnarmedChangesNothing, AnswersAreListed}
+use Rattle.node.proofs.Steps.{called-refused, called-answer}
 
 -- ---- a delivery
 
@@ -117,6 +114,41 @@ unfolding afterState
 state-in e room n kept =
     let (state, full) = first-in e in
     either-in (listed e) (not (goodState n kept)) _ _ state (either-in (listed e) (not room) _ _ full (event-in n e))
+
+-- ---- a timer that is none of the four
+
+module _ (room : Bool) (n : Node) (kept : List ℕ) (time : ℕ) where
+  abbrev unarmed : Answer
+  unarmed = afterState room n kept (unarmedAnswer time)
+
+  unarmed-in : In (2 ∷ 3 ∷ 9 ∷ 1 ∷ []) unarmed
+  unfolding numberOf afterState unarmedAnswer
+  unarmed-in =
+      let l : List ℕ = 2 ∷ 3 ∷ 9 ∷ 1 ∷ [] in
+      either-in l (not (goodState n kept)) _ _ refl (either-in l (not room) _ _ refl (either-in l (not (goodTime time)) _ _ refl refl))
+
+  -- none of them is DONE
+  unarmed-refused : isDone unarmed ≡ false
+  unfolding numberOf
+  unarmed-refused = test-false (isDone unarmed) (λ h. false≢true (ap (λ (a : Answer). among (numberOf a) (2 ∷ 3 ∷ 9 ∷ 1 ∷ [])) (sym (done-only unarmed h)) ∙ unarmed-in))
+
+-- it asks for nothing but its time
+unarmed-answer : (n : Node) (t : Fired) (time : ℕ) → firing n t ≡ false → timerAnswer n t time ≡ unarmedAnswer time
+unfolding timerAnswer unarmedAnswer
+unarmed-answer n t time h = rw h
+
+pub unarmed-changes-nothing : UnarmedChangesNothing
+unarmed-changes-nothing w time outbox at =
+    let n = w .node in
+    let room = inRoom w outbox at in
+    record {
+      same = λ t h.
+          let e = ap (λ (a : Answer). afterState room n (w .kept) a) (unarmed-answer n t time h) in
+          called-refused w (fires t time) outbox at (ap isDone e ∙ unarmed-refused room n (w .kept) time)
+          ∙ ap (λ (a : Answer). out (refusing a n) outbox (w .kept) (w .signatures)) e;
+      answer-listed = unarmed-in room n (w .kept) time;
+      nothing = record { node = refl; written = refl; timers = refl; handed = refl; outbox-same = refl; kept = refl; signatures = refl };
+    }
 
 restore-in : (c : Config) (s : Saved) → In (0 ∷ 12 ∷ 2 ∷ []) (restoreAnswer c s)
 unfolding numberOf restoreAnswer

@@ -389,4 +389,4 @@ restored-sends = refl
 
 restored-waits : Each (λ m. kindOf m ≡ 1) (newEpoch 3 ∷ newEpoch 3 ∷ [])
 unfolding run step afterState goodState goodNode goodConfig goodFeed noneEmpty sum goodPace goodFollower goodLeader flags goodKept startAnswer timerAnswer firing ending deliveryAnswer messageAnswer frameAnswer afterShort afterVersion afterKind afterSender bodyAnswer bodyLength messageOf frameBytes bodyBytes headBytes trailerBytes beBytes beNumber beFrom numberOf followerAnswer verdictOf pacing pacemaker.startOf pacemaker.resendOf
-restored-waits = subst (Each (λ m. kindOf m ≡ 1)) restored-sends (restored-waits-for-a-move restored before-a-move restored-begun refl)
+restored-waits = subst (Each (λ m. kindOf m ≡ 1)) restored-sends (restored-waits-for-a-move restored before-a-move restored-begun refl .sends)

@@ -37,15 +37,16 @@ use Rattle.leader.specs.Rules.{noSignatures}
 use Rattle.leader.proofs.Cases.{either}
 use Rattle.node.specs.declared.Node.{Node}
 use Rattle.node.specs.State.{withRound, epochOf, leaderNow, leads}
-use Rattle.node.specs.Event.{Whole, Event, Effect}
+use Rattle.node.specs.Event.{Whole, Event, Effect, done}
 use Rattle.node.specs.Effects.{announced, asking-for, answering, replying, pacing, begun, moving, raising, following, leading}
 use Rattle.node.specs.Calls.{step}
-use Rattle.node.specs.Runs.{settledIn, after, run, sentBy, sentIn}
-use Rattle.node.specs.Claims.{countObserves, FewRoundsAnEpoch, RestoredWaitsForAMove}
+use Rattle.node.specs.Runs.{settledIn, after, run, sentBy, sentIn, arriving, handedBy, handedIn}
+use Rattle.node.specs.Claims.{countObserves, FewRoundsAnEpoch, Waits, RestoredWaitsForAMove}
 use Rattle.node.proofs.Sent.{each-append, announced-each}
 use Rattle.node.proofs.Taken.{taken-request, taken-live}
 use Rattle.node.proofs.Turns.{Turn, paced, moved, followed, led, step-turns, raising-epoch}
 use Rattle.node.proofs.Runs.{config-after}
+use Rattle.node.proofs.Bodies.{none-handed}
 
 -- ---- no epoch falls
 
@@ -220,27 +221,29 @@ leads-live n h =
     and-true started live (and-true (started && live) (eqb (n .config .own) (leaderNow n)) h .0) .1
 
 -- a halted instance takes nothing, and leads nothing
-waits-turn : (w : Whole) (e : Event) (f : Effect) → Turn w e f → isSet (w .node .follower .live) ≡ false → (epochOf (w .node) < epochOf (f .whole-after .node) → ⊥) → Each Announces (f .sent) × (isSet (f .whole-after .node .follower .live) ≡ false)
+waits-turn : (w : Whole) (e : Event) (f : Effect) → Turn w e f → isSet (w .node .follower .live) ≡ false → (epochOf (w .node) < epochOf (f .whole-after .node) → ⊥) → Each Announces (f .sent) × (isSet (f .whole-after .node .follower .live) ≡ false) × (handedBy w e (done f) ≡ [])
 unfolding pacing moving following leading
-waits-turn w e f (paced p t s) h q = (announced-each Announces (p .sent) (λ x e. refl), h)
+waits-turn w e f (paced p t s) h q = (announced-each Announces (p .sent) (λ x e. refl), h, none-handed (cond (isSet (w .node .follower .kept)) (w .kept) (arriving e)))
 waits-turn w e f (moved p t s) h q = absurd (q s)
 waits-turn w e f (followed d m s t) h q = absurd (false≢true (sym h ∙ taken-live (w .node .follower) _ _ (d .link) m (verdict-taken (w .node .follower) _ _ _ (d .link) (d .bits) m t .0)))
 waits-turn w e f (led l g t) h q = absurd (false≢true (sym h ∙ leads-live (w .node) t))
 
-waits-run : (w : Whole) (es : List Event) → isSet (w .node .follower .live) ≡ false → epochOf (run w es .node) ≡ epochOf (w .node) → Each Announces (sentIn w es)
-unfolding run sentIn
-waits-run w [] h q = tt
+waits-run : (w : Whole) (es : List Event) → isSet (w .node .follower .live) ≡ false → epochOf (run w es .node) ≡ epochOf (w .node) → Waits w es
+unfolding run sentIn handedIn
+waits-run w [] h q = record { outside = h; sends = tt; hands = refl }
 waits-run w (e ∷ es) h q =
-    step-turns (λ s. (isSet (settledIn w s .node .follower .live) ≡ false → epochOf (run (settledIn w s) es .node) ≡ epochOf (settledIn w s .node) → Each Announces (sentIn (settledIn w s) es)) → epochOf (run (settledIn w s) es .node) ≡ epochOf (w .node) → Each Announces (sentBy s ++ sentIn (settledIn w s) es)) w e
-    (λ a g same. g h same)
+    let r = step-turns (λ s. (isSet (settledIn w s .node .follower .live) ≡ false → epochOf (run (settledIn w s) es .node) ≡ epochOf (settledIn w s .node) → Waits (settledIn w s) es) → epochOf (run (settledIn w s) es .node) ≡ epochOf (w .node) → (isSet (run (settledIn w s) es .node .follower .live) ≡ false) × Each Announces (sentBy s ++ sentIn (settledIn w s) es) × (handedBy w e s ++ handedIn (settledIn w s) es ≡ [])) w e
+    (λ a g same. let r = g h same in (r .outside, r .sends, r .hands))
     (λ f t g same.
     let v = f .whole-after in
     let low = epoch-turn w e f t in
     let high = epoch-run v es in
-    let (first, still) = waits-turn w e f t h (λ rises. omega arith) in
-    each-append Announces (f .sent) (sentIn v es) first (g still (omega arith)))
+    let (first, still, none) = waits-turn w e f t h (λ rises. omega arith) in
+    let r = g still (omega arith) in
+    (r .outside, each-append Announces (f .sent) (sentIn v es) first (r .sends), rw none (r .hands)))
     (waits-run (after w e) es)
-    q
+    q in
+    record { outside = r .0; sends = r .1; hands = r .2 }
 
 pub restored-waits-for-a-move : RestoredWaitsForAMove
 restored-waits-for-a-move w es b q = waits-run w es (ap (λ (n : Node). isSet (n .follower .live)) (b .node)) q

@@ -66,7 +66,7 @@ module _ (w : Whole) (e : Event) (outbox : List ℕ) (at : ℕ) where
   unfolding called
   called-done h = rw h
 
-  called-refused : isDone answered ≡ false → called w e outbox at ≡ out (refusing answered (w .node)) outbox (w .kept) (w .signatures)
+  pub called-refused : isDone answered ≡ false → called w e outbox at ≡ out (refusing answered (w .node)) outbox (w .kept) (w .signatures)
   unfolding called
   called-refused h = rw h
 
@@ -127,7 +127,7 @@ call-is-the-step w e outbox at =
     }
 
 pub one-result : OneResult
-one-result w e outbox at r r′ h h′ = h ∙ sym h′
+one-result w e outbox at c s = record { call = λ r r′ h h′. h ∙ sym h′; fresh = λ r r′ h h′. h ∙ sym h′; restore = λ r r′ h h′. h ∙ sym h′ }
 
 -- ---- NEWEPOCH
 

@@ -35,9 +35,11 @@ use Rattle.follower.specs.State.{isSet}
 use Rattle.follower.specs.Claims.{Carries}
 use Rattle.node.specs.declared.Fired.{Fired}
 use Rattle.node.specs.declared.Fired.the-variants as fired
+use Rattle.node.specs.declared.Made.{Made}
 use Rattle.node.specs.State.{restoredNode, epochOf, goodState}
 use Rattle.node.specs.Event.{Whole, whole, Delivery, Event, starts, delivers, fires, Effect, refused, done}
-use Rattle.node.specs.Calls.{restoreAnswer, restoreOf, freshOf, step, Out, out, framesOf, noTimers, refusing, settled, inRoom, called}
+use Rattle.node.specs.Answers.{firing}
+use Rattle.node.specs.Calls.{restoreAnswer, restoreOf, freshOf, step, Out, out, framesOf, noTimers, refusing, settled, inRoom, called, unarmedOf}
 use Rattle.node.specs.Typed.{TypedWhole, TypedEvent, TypedEvents}
 use Rattle.node.specs.Runs.{after, run, Begun, Reachable, sentIn, handedIn, deliveries, AllOf, highestFrom, observations, Call, givenBy, callAll, AllDone}
 
@@ -97,15 +99,29 @@ pub record Listed (w : Whole) (e : Event) (outbox : List ℕ) (at : ℕ) (c : Co
 abbrev pub AnswersAreListed : Type 0
 AnswersAreListed = (w : Whole) (e : Event) (outbox : List ℕ) (at : ℕ) (c : Config) (s : Saved) → Listed w e outbox at c s
 
+-- A timer that is none of the four is answered as one of the four that is not armed: 2, 3, 9 or 1, and nothing changes.
+pub record Unarmed (w : Whole) (time : ℕ) (outbox : List ℕ) (at : ℕ) (r : Out) : Type 0 where
+  pub same : (t : Fired) → firing (w .node) t ≡ false → called w (fires t time) outbox at ≡ r
+  pub answer-listed : among (numberOf (r .result .answer)) (2 ∷ 3 ∷ 9 ∷ 1 ∷ []) ≡ true
+  pub nothing : Unchanged w outbox r
+
+abbrev pub UnarmedChangesNothing : Type 0
+UnarmedChangesNothing = (w : Whole) (time : ℕ) (outbox : List ℕ) (at : ℕ) → Unarmed w time outbox at (unarmedOf (w .node) time outbox at (w .kept) (w .signatures))
+
 -- What one promise allows is one result.
+pub record OneEach (w : Whole) (e : Event) (outbox : List ℕ) (at : ℕ) (c : Config) (s : Saved) : Type 0 where
+  pub call : (r r′ : Out) → r ≡ called w e outbox at → r′ ≡ called w e outbox at → r ≡ r′
+  pub fresh : (r r′ : Made) → r ≡ freshOf c → r′ ≡ freshOf c → r ≡ r′
+  pub restore : (r r′ : Made) → r ≡ restoreOf c s → r′ ≡ restoreOf c s → r ≡ r′
+
 abbrev pub OneResult : Type 0
-OneResult = (w : Whole) (e : Event) (outbox : List ℕ) (at : ℕ) (r r′ : Out) → r ≡ called w e outbox at → r′ ≡ called w e outbox at → r ≡ r′
+OneResult = (w : Whole) (e : Event) (outbox : List ℕ) (at : ℕ) (c : Config) (s : Saved) → OneEach w e outbox at c s
 
 -- The configuration never changes.
 abbrev pub ConfigurationStays : Type 0
 ConfigurationStays = (w : Whole) (es : List Event) → run w es .node .config ≡ w .node .config
 
--- A started node in range, with room, takes every well-formed NEWEPOCH, whatever it says.
+-- A started node in range, with room, takes every well-formed NEWEPOCH, whatever it says, at any time and with any commit in range.
 abbrev pub NewEpochIsTaken : Type 0
 NewEpochIsTaken =
     (w : Whole) (d : Delivery) (outbox : List ℕ) (at : ℕ) → goodState (w .node) (w .kept) ≡ true → isStarted (w .node .pace) ≡ true → inRoom w outbox at ≡ true → frameAnswer (d .frame) (w .node .config .n) (w .node .config .number) (d .link) ≡ answer.Done → kindIn (d .frame) ≡ 1 → goodTime (d .time) && goodCommit (d .commit) ≡ true → called w (delivers d) outbox at .result .answer ≡ answer.Done
@@ -280,10 +296,14 @@ abbrev pub FewRoundsAnEpoch : Type 0
 FewRoundsAnEpoch =
     (w : Whole) (es : List Event) (epoch : ℕ) → countObserves epoch (sentIn w es) ≤ w .node .config .«r_max»
 
--- A restored node "doesn't rejoin a report instance until it moves to a higher epoch": before it moves it sends NEWEPOCH alone.
+-- A restored node "doesn't rejoin a report instance until it moves to a higher epoch": before it moves it is in none, sends NEWEPOCH alone and hands out nothing.
+pub record Waits (w : Whole) (es : List Event) : Type 0 where
+  pub outside : isSet (run w es .node .follower .live) ≡ false
+  pub sends : Each (λ m. kindOf m ≡ 1) (sentIn w es)
+  pub hands : handedIn w es ≡ []
+
 abbrev pub RestoredWaitsForAMove : Type 0
-RestoredWaitsForAMove =
-    (w : Whole) (es : List Event) → Begun w → epochOf (run w es .node) ≡ epochOf (w .node) → Each (λ m. kindOf m ≡ 1) (sentIn w es)
+RestoredWaitsForAMove = (w : Whole) (es : List Event) → Begun w → epochOf (run w es .node) ≡ epochOf (w .node) → Waits w es
 
 -- ---- demand 3
 

@@ -1,10 +1,10 @@
 -- Laws of marks: a first mark counts for one, a second for nothing; marks are flags.
 use mathlib.Core.Path.{_≡_, refl, ap, sym, _∙_}
-use mathlib.Core.Bool.{Bool, true, false, _&&_, and-assoc, and-true, false≢true}
+use mathlib.Core.Bool.{Bool, true, false, _&&_, and-assoc, and-true, and-false, false≢true}
 use mathlib.Core.List.{List, [], _∷_}
 use Prim.Native.Nat.{ℕ, zero, suc, _≤_, _<_}
 use native.Mathlib.Omega.{arith}
-use borrow.Author.Tests.{eqb-true}
+use borrow.Author.Tests.{eqb-true, leb-true, le-leb}
 use lib.Dec.{eqb, leb}
 use lib.ListN.{length, getD, set, take, replicate}
 use lib.Seq.{set-getD}
@@ -32,6 +32,21 @@ unfolding flags
 flags-suc [] i h = absurd (omega arith)
 flags-suc (m ∷ marks) zero h = and-true (leb m 1)
 flags-suc (m ∷ marks) (suc i) h = rw (flags-suc marks i (omega arith)) (sym (and-assoc (leb m 1) (flags (take i marks)) (leb (getD marks i 0) 1)))
+
+-- whether the largest so far is a 0 or a 1, after one more: a larger one decides alone, and one that is not larger decides nothing
+decides-alone : (a b : ℕ) (t : Bool) → leb b 1 ≡ t → a < b → leb b 1 ≡ leb a 1 && leb b 1
+decides-alone a b true e h = rw (e, le-leb a 1 (omega (arith, leb-true b 1 e)))
+decides-alone a b false e h = rw e (sym (and-false (leb a 1)))
+
+decides-nothing : (a b : ℕ) (t : Bool) → leb a 1 ≡ t → b ≤ a → leb a 1 ≡ leb a 1 && leb b 1
+decides-nothing a b true e h = rw (e, le-leb b 1 (omega (arith, leb-true a 1 e)))
+decides-nothing a b false e h = rw e
+
+pub flags-larger : (marks : List ℕ) (i most : ℕ) → i < length marks → leb most 1 ≡ flags (take i marks) → most < getD marks i 0 → leb (getD marks i 0) 1 ≡ flags (take (suc i) marks)
+flags-larger marks i most h inv more = rw (flags-suc marks i h, ← inv) (decides-alone most (getD marks i 0) (leb (getD marks i 0) 1) refl more)
+
+pub flags-not-larger : (marks : List ℕ) (i most : ℕ) → i < length marks → leb most 1 ≡ flags (take i marks) → getD marks i 0 ≤ most → leb most 1 ≡ flags (take (suc i) marks)
+flags-not-larger marks i most h inv less = rw (flags-suc marks i h, ← inv) (decides-nothing most (getD marks i 0) (leb most 1) refl less)
 
 both-true : (a b : Bool) → a && b ≡ true → (a ≡ true) × (b ≡ true)
 both-true true b e = (refl, e)

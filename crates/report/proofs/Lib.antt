@@ -3,4 +3,5 @@ pub mod Values
 pub mod Whole
 pub mod Faults
 pub mod Stands
+pub mod Listed
 pub mod Claims

@@ -1,5 +1,5 @@
 -- The claims of specs/Claims.antt, each proved, and for each an instance that computes.
-use mathlib.Core.Path.{_≡_, refl, sym, ap, _∙_}
+use mathlib.Core.Path.{_≡_, refl, sym, ap, _∙_, subst}
 use mathlib.Core.Bool.{Bool, true, false, cond, false≢true}
 use mathlib.Core.List.{List, [], _∷_, _++_}
 use Prim.Native.Nat.{ℕ, suc, _*_, _≤_, _<_}
@@ -17,6 +17,7 @@ use Rattle.config.specs.declared.Config.{Config}
 use Rattle.config.specs.declared.Commit.{Commit}
 use Rattle.config.proofs.Facts.{good-facts}
 use Rattle.wire.specs.Numbers.{beFrom, beNumber, beBytes}
+use Rattle.price.specs.Deviation.{deviates}
 use Rattle.quorum.specs.Marks.{flags}
 use Rattle.quorum.specs.Sort.{Perm}
 use Rattle.quorum.specs.First.{firstAt, among}
@@ -37,11 +38,11 @@ use Rattle.sender.specs.declared.Part.{Part}
 use Rattle.sender.specs.State.{freshSender, slotIn, goodTimes, goodSlots, goodFields, goodSender}
 use Rattle.sender.specs.Stage.{permutes, stageOf, stageFor, stagesOf, placeIn, waits}
 use Rattle.sender.specs.Waiting.{waitingBelow, waiting, earliestBelow, earliest, freeIn}
-use Rattle.sender.specs.Calls.{afterSimilar, afterConfig, afterBody, transmitAnswer, acceptedOf, withAccepted, queueing, dueAt, accepting, acceptingBytes, transmitted, transmitOf, early, timeoutAnswer, nothing, releasing, released, timeoutOf, handedPart}
+use Rattle.sender.specs.Calls.{afterSimilar, afterConfig, afterBody, transmitAnswer, acceptedOf, withAccepted, queueing, dueAt, accepting, transmitted, transmitOf, early, timeoutAnswer, nothing, releasing, released, timeoutOf, handedPart}
 use Rattle.sender.specs.History.{Whole, Call, transmits, expires, after, run, queuedIn, removedIn, reportOf, handedBy}
-use Rattle.sender.specs.Claims.{RefusalChangesNothing, FreshIsGood, GoodStaysGood, RefusedIsNoSender, OneResult, ConfigurationStays, DoneIsAccepted, AcceptsOnlyNewer, NotOlder, AcceptedOnlyRises, NothingIsLost, NothingWaitsAtFirst, QueuedOnlyRises, ifNewer, HandsOutWhatItRemoves, Stays, SlotsStay, TimeoutTakesTheEarliest, TimeoutsEmptyTheQueue, StageHoldsThePlace, BeyondTheLastStage, EveryPlaceIsTaken, Good, RemovesOne, Timeout, calling, Holds}
+use Rattle.sender.specs.Claims.{RefusalChangesNothing, FreshIsGood, GoodStaysGood, RefusedIsNoSender, OneResult, ConfigurationStays, DoneIsAccepted, AcceptsOnlyNewer, NotOlder, AcceptedOnlyRises, NothingIsLost, NothingWaitsAtFirst, Rising, QueuedOnlyRises, ifNewer, HandsOutWhatItRemoves, Stays, SlotsStay, TimeoutTakesTheEarliest, TimeoutsEmptyTheQueue, StageHoldsThePlace, BeyondTheLastStage, EveryPlaceIsTaken, Good, RemovesOne, Timeout, calling, Holds}
 use Rattle.sender.proofs.Places.{stage-holds, stage-beyond, member-among}
-use Rattle.sender.proofs.Facts.{sender-facts, good-sender, config-refused, transmit-passed, transmit-answer, timeout-passed, timeout-done, timeout-answer}
+use Rattle.sender.proofs.Facts.{sender-facts, good-sender, config-refused, transmit-passed, transmit-done, transmit-answer, timeout-passed, timeout-done, timeout-answer}
 use Rattle.sender.proofs.Queue.{heldAt, earliest-law}
 use Rattle.sender.proofs.Writes.{times-none, slots-each, each-slots}
 use Rattle.sender.proofs.Runs.{good-call, rises-run, config-run, queued-rises, slot-stays, moved-run, timeouts-empty}
@@ -87,7 +88,8 @@ refused-is-no-sender c bytes h =
     record { transmit = λ body time commit permutation. rw e; timeout = λ time commit. rw e }
 
 pub one-result : OneResult
-one-result s body time commit permutation bytes r r′ e e′ = e ∙ sym e′
+one-result s time commit bytes =
+    record { made = λ c r r′ e e′. e ∙ sym e′; transmit = λ body permutation r r′ e e′. e ∙ sym e′; timeout = λ r r′ e e′. e ∙ sym e′ }
 
 pub configuration-stays : ConfigurationStays
 configuration-stays = config-run
@@ -133,7 +135,7 @@ pub queued-only-rises : QueuedOnlyRises
 queued-only-rises = queued-rises
 
 pub slots-stay : SlotsStay
-slots-stay w call slot g within e = slot-stays w call slot g e
+slots-stay = slot-stays
 
 pub timeout-takes-the-earliest : TimeoutTakesTheEarliest
 unfolding timeoutOf released
@@ -280,6 +282,24 @@ first-waits : let w = after begun first in Perm (record { time = 205; report = r
 unfolding run queuedIn removedIn waitingBelow transmitOf transmitAnswer afterBody afterConfig afterSimilar goodSender goodFields goodConfig goodFeed noneEmpty sum flags goodTimes goodSlots numberOf bodyAnswer bodyLength shapeOf table messageOf allMembers attestedBytes headBytes countedBytes flat observationBytes signerBytes beBytes beNumber beFrom entries permutes firstAt stageOf freeIn transmitted
 first-waits = nothing-is-lost begun (first ∷ []) begun-good
 
+-- the report of the next round is accepted once the commit has reached the first: each that waits is newer than the one before
+abbrev second : Call
+second = transmits (attestedBytes (reported 2)) 6 (commitOf 7 1) order
+
+second-done : let w = after begun first in isDone (transmitOf (w .sender) (attestedBytes (reported 2)) 6 (commitOf 7 1) order (w .slots) .result .answer) ≡ true
+unfolding transmitOf transmitAnswer afterBody afterConfig afterSimilar deviates goodSender goodFields goodConfig goodFeed noneEmpty sum flags goodTimes goodSlots numberOf bodyAnswer bodyLength shapeOf table messageOf allMembers attestedBytes headBytes countedBytes flat observationBytes signerBytes beBytes beNumber beFrom entries permutes firstAt stageOf freeIn transmitted accepting
+second-done =
+    let w = after begun first in
+    transmit-answer (w .sender) (attestedBytes (reported 2)) 6 (commitOf 7 1) order (w .slots)
+    ∙ transmit-done (w .sender) (attestedBytes (reported 2)) 6 (commitOf 7 1) order (w .slots) (first-good .range) (first-good .room) refl
+
+both-queued : queuedIn begun (first ∷ second ∷ []) ≡ record { time = 205; report = reported 1 } ∷ record { time = 206; report = reported 2 } ∷ []
+unfolding queuedIn transmitOf transmitAnswer afterBody afterConfig afterSimilar goodSender goodFields goodConfig goodFeed noneEmpty sum flags goodTimes goodSlots numberOf bodyAnswer bodyLength shapeOf table messageOf allMembers attestedBytes headBytes countedBytes flat observationBytes signerBytes beBytes beNumber beFrom entries permutes firstAt stageOf freeIn transmitted accepting
+both-queued = rw second-done
+
+both-rise : newer 7 2 7 1 ≡ true
+both-rise = subst Rising both-queued (queued-only-rises begun (first ∷ second ∷ [])) .0
+
 -- it is due at 205
 first-expires : let w = after begun first in isDone (timeoutOf (w .sender) 205 (commitOf 0 0) (w .slots) .answer) ≡ true
 unfolding earliestBelow transmitOf transmitAnswer afterBody afterConfig afterSimilar goodSender goodFields goodConfig goodFeed noneEmpty sum flags goodTimes goodSlots numberOf bodyAnswer bodyLength shapeOf table messageOf allMembers attestedBytes headBytes countedBytes flat observationBytes signerBytes beBytes beNumber beFrom entries permutes firstAt stageOf freeIn transmitted accepting
@@ -330,7 +350,7 @@ two-hands = (hands-out-what-it-removes two 205 (commitOf 0 0) two-good, hands-ou
 -- and the newer one stays in its slot
 two-keeps : Stays two (after two (expires 205 (commitOf 0 0))) 0
 unfolding earliestBelow attestedBytes headBytes countedBytes flat observationBytes signerBytes beBytes beNumber beFrom shapeOf table entries
-two-keeps = slots-stay two (expires 205 (commitOf 0 0)) 0 two-good (omega arith) refl .1 (λ z. absurd (omega arith))
+two-keeps = slots-stay two (expires 205 (commitOf 0 0)) 0 two-good refl .1 (λ z. absurd (omega arith))
 
 abbrev twice : List Timeout
 twice = record { time = 205; commit = commitOf 0 0 } ∷ record { time = 206; commit = commitOf 7 1 } ∷ []

@@ -1,5 +1,5 @@
 -- What the checks of states and calls tell, as plain facts for whoever passed them.
-use mathlib.Core.Path.{_≡_, refl, sym, _∙_}
+use mathlib.Core.Path.{_≡_, refl, sym, ap, _∙_}
 use mathlib.Core.Bool.{Bool, true, false, not, cond, _&&_, _||_, false≢true, or-true}
 use mathlib.Core.List.{List}
 use Prim.Native.Nat.{ℕ, _≤_}
@@ -121,14 +121,23 @@ transmit-passed s body time commit permutation waiting h =
       free = λ w. eqb-false (freeIn (s .taken)) slots (not-second (waits (s .config) place) (eqb (freeIn (s .taken)) slots) (v .2) w);
     }
 
--- what a call answers is DONE where no check refuses
-pub transmit-answer : (s : Sender) (body : List ℕ) (time : ℕ) (commit : Commit) (permutation waiting : List ℕ) → isDone (transmitOf s body time commit permutation waiting .result .answer) ≡ isDone (transmitAnswer s body time commit permutation waiting)
-unfolding transmitOf transmitted numberOf
-transmit-answer s body time commit permutation waiting = go (isDone (transmitAnswer s body time commit permutation waiting)) refl
+-- in a state in range, with room, the other checks decide
+pub transmit-done : (s : Sender) (body : List ℕ) (time : ℕ) (commit : Commit) (permutation waiting : List ℕ) → goodSender s waiting ≡ true → roomy waiting ≡ true → isDone (cond (not (isDone (bodyAnswer (s .config .n) 6 body))) (bodyAnswer (s .config .n) 6 body) (afterBody s body time commit permutation)) ≡ true → isDone (transmitAnswer s body time commit permutation waiting) ≡ true
+unfolding transmitAnswer
+transmit-done s body time commit permutation waiting good room h = rw (good, room, h)
+
+-- what a call answers is what its checks answer
+pub transmit-told : (s : Sender) (body : List ℕ) (time : ℕ) (commit : Commit) (permutation waiting : List ℕ) → transmitOf s body time commit permutation waiting .result .answer ≡ transmitAnswer s body time commit permutation waiting
+unfolding transmitOf transmitted
+transmit-told s body time commit permutation waiting = go (isDone (transmitAnswer s body time commit permutation waiting)) refl
   where
-    go : (b : Bool) → isDone (transmitAnswer s body time commit permutation waiting) ≡ b → isDone (cond b (transmitted s body time (placeIn (s .config) permutation) waiting) (sent (refusedTransmission (transmitAnswer s body time commit permutation waiting) s) waiting) .result .answer) ≡ isDone (transmitAnswer s body time commit permutation waiting)
-    go true e = sym e
+    go : (b : Bool) → isDone (transmitAnswer s body time commit permutation waiting) ≡ b → cond b (transmitted s body time (placeIn (s .config) permutation) waiting) (sent (refusedTransmission (transmitAnswer s body time commit permutation waiting) s) waiting) .result .answer ≡ transmitAnswer s body time commit permutation waiting
+    go true e = sym (done-only _ e)
     go false e = refl
+
+-- so it is DONE where no check refuses
+pub transmit-answer : (s : Sender) (body : List ℕ) (time : ℕ) (commit : Commit) (permutation waiting : List ℕ) → isDone (transmitOf s body time commit permutation waiting .result .answer) ≡ isDone (transmitAnswer s body time commit permutation waiting)
+transmit-answer s body time commit permutation waiting = ap isDone (transmit-told s body time commit permutation waiting)
 
 -- ---- timeouts
 
@@ -154,10 +163,13 @@ unfolding timeoutAnswer early numberOf
 timeout-done s time commit waiting h p =
     rw (p .good, p .room, h, ne-eqb (earliest s waiting) slots (p .some), le-ltb time (timeOf s (earliest s waiting)) (p .due))
 
-pub timeout-answer : (s : Sender) (time : ℕ) (commit : Commit) (waiting : List ℕ) → isDone (timeoutOf s time commit waiting .answer) ≡ isDone (timeoutAnswer s time commit waiting)
-unfolding timeoutOf released numberOf
-timeout-answer s time commit waiting = go (isDone (timeoutAnswer s time commit waiting)) refl
+pub timeout-told : (s : Sender) (time : ℕ) (commit : Commit) (waiting : List ℕ) → timeoutOf s time commit waiting .answer ≡ timeoutAnswer s time commit waiting
+unfolding timeoutOf released
+timeout-told s time commit waiting = go (isDone (timeoutAnswer s time commit waiting)) refl
   where
-    go : (b : Bool) → isDone (timeoutAnswer s time commit waiting) ≡ b → isDone (cond b (released s time commit waiting) (refusedTimeout (timeoutAnswer s time commit waiting) s) .answer) ≡ isDone (timeoutAnswer s time commit waiting)
-    go true e = sym e
+    go : (b : Bool) → isDone (timeoutAnswer s time commit waiting) ≡ b → cond b (released s time commit waiting) (refusedTimeout (timeoutAnswer s time commit waiting) s) .answer ≡ timeoutAnswer s time commit waiting
+    go true e = sym (done-only _ e)
     go false e = refl
+
+pub timeout-answer : (s : Sender) (time : ℕ) (commit : Commit) (waiting : List ℕ) → isDone (timeoutOf s time commit waiting .answer) ≡ isDone (timeoutAnswer s time commit waiting)
+timeout-answer s time commit waiting = ap isDone (timeout-told s time commit waiting)

@@ -13,4 +13,5 @@ pub mod Outcomes
 pub mod Moves
 pub mod Handed
 pub mod Runs
+pub mod Listed
 pub mod Claims

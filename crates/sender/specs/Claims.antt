@@ -7,7 +7,8 @@ use Prim.Native.Nat.{ℕ, _-_, _≤_, _<_}
 use lib.ListN.{length, take}
 use Rattle.config.specs.Limits.{slots, mostStages}
 use Rattle.config.specs.Bounds.{goodConfig, goodTime, goodCommit, sum}
-use Rattle.config.specs.Codes.{isDone}
+use Rattle.config.specs.Codes.{numberOf, isDone}
+use Rattle.config.specs.declared.Answer.{Answer}
 use Rattle.config.specs.declared.Answer.the-variants as answer
 use Rattle.config.specs.declared.Config.{Config}
 use Rattle.config.specs.declared.Commit.{Commit}
@@ -20,12 +21,14 @@ use Rattle.frame.specs.Claims.{Each}
 use Rattle.report.specs.Newer.{newer}
 use Rattle.sender.specs.declared.Sender.{Sender}
 use Rattle.sender.specs.declared.Accepted.{Accepted}
+use Rattle.sender.specs.declared.Made.{Made}
+use Rattle.sender.specs.declared.Released.{Released}
 use Rattle.sender.specs.declared.Transmit.the-variants.{Leave}
 use Rattle.sender.specs.State.{freshSender, goodSender, roomy, taken, timeOf, slotIn}
 use Rattle.sender.specs.Stage.{permutes, stageFor, waits, stagesOf}
 use Rattle.sender.specs.Waiting.{Waiting, waiting, earliest}
-use Rattle.sender.specs.Calls.{Sent, acceptedOf, transmitOf, timeoutOf, nothing, handedPart}
-use Rattle.sender.specs.History.{Whole, Call, expires, after, run, removedBy, queuedIn, removedIn, handedBy}
+use Rattle.sender.specs.Calls.{madeOf, Sent, acceptedOf, transmitOf, timeoutOf, nothing, handedPart}
+use Rattle.sender.specs.History.{Whole, Call, transmits, expires, after, run, removedBy, queuedIn, removedIn, handedBy}
 
 -- the tables of a sender have a place for each slot, as its arrays do
 pub record Sized (s : Sender) : Type 0 where
@@ -61,10 +64,30 @@ pub record NoSender (c : Config) (bytes : List ℕ) : Type 0 where
 abbrev pub RefusedIsNoSender : Type 0
 RefusedIsNoSender = (c : Config) (bytes : List ℕ) → goodConfig c ≡ false → NoSender c bytes
 
+-- Each call ends with an answer that document 01 lists for it: a transmission 0, 2, 3, 8, 9, 12, 13, 19 and 20, its timeout 0, 2, 3, 9 and 1; making a sender 0 and 12.
+abbrev pub answered : Whole → Call → Answer
+answered w (transmits body time commit permutation) = transmitOf (w .sender) body time commit permutation (w .slots) .result .answer
+answered w (expires time commit) = timeoutOf (w .sender) time commit (w .slots) .answer
+
+abbrev pub listed : Call → List ℕ
+listed (transmits body time commit permutation) = 0 ∷ 2 ∷ 3 ∷ 8 ∷ 9 ∷ 12 ∷ 13 ∷ 19 ∷ 20 ∷ []
+listed (expires time commit) = 0 ∷ 2 ∷ 3 ∷ 9 ∷ 1 ∷ []
+
+pub record Listed (w : Whole) (call : Call) (c : Config) : Type 0 where
+  pub call-listed : among (numberOf (answered w call)) (listed call) ≡ true
+  pub fresh : among (numberOf (madeOf c .answer)) (0 ∷ 12 ∷ []) ≡ true
+
+abbrev pub AnswersAreListed : Type 0
+AnswersAreListed = (w : Whole) (call : Call) (c : Config) → Listed w call c
+
 -- What one promise allows is one result.
+pub record OneEach (s : Sender) (time : ℕ) (commit : Commit) (bytes : List ℕ) : Type 0 where
+  pub made : (c : Config) (r r′ : Made) → r ≡ madeOf c → r′ ≡ madeOf c → r ≡ r′
+  pub transmit : (body permutation : List ℕ) (r r′ : Sent) → r ≡ transmitOf s body time commit permutation bytes → r′ ≡ transmitOf s body time commit permutation bytes → r ≡ r′
+  pub timeout : (r r′ : Released) → r ≡ timeoutOf s time commit bytes → r′ ≡ timeoutOf s time commit bytes → r ≡ r′
+
 abbrev pub OneResult : Type 0
-OneResult =
-    (s : Sender) (body : List ℕ) (time : ℕ) (commit : Commit) (permutation bytes : List ℕ) (r r′ : Sent) → r ≡ transmitOf s body time commit permutation bytes → r′ ≡ transmitOf s body time commit permutation bytes → r ≡ r′
+OneResult = (s : Sender) (time : ℕ) (commit : Commit) (bytes : List ℕ) → OneEach s time commit bytes
 
 -- The configuration never changes.
 abbrev pub ConfigurationStays : Type 0
@@ -75,13 +98,13 @@ abbrev pub NotOlder : Accepted → Accepted → Type 0
 NotOlder a b = (b ≡ a) ⊎ (newer (b .epoch) (b .round) (a .epoch) (a .round) ≡ true)
 
 -- "Otherwise it becomes the accepted one": a transmission that is DONE makes the body's report the accepted one, and it is newer than the commit.
-pub record Accepts (s : Sender) (body : List ℕ) (commit : Commit) (after-call : Sender) : Type 0 where
+pub record Accepts (body : List ℕ) (commit : Commit) (after-call : Sender) : Type 0 where
   pub accepted : after-call .accepted ≡ acceptedOf (attestedIn body)
   pub above : newer (attestedIn body .epoch) (attestedIn body .round) (commit .epoch) (commit .round) ≡ true
 
 abbrev pub DoneIsAccepted : Type 0
 DoneIsAccepted =
-    (s : Sender) (body : List ℕ) (time : ℕ) (commit : Commit) (permutation bytes : List ℕ) → isDone (transmitOf s body time commit permutation bytes .result .answer) ≡ true → Accepts s body commit (transmitOf s body time commit permutation bytes .result .sender)
+    (s : Sender) (body : List ℕ) (time : ℕ) (commit : Commit) (permutation bytes : List ℕ) → isDone (transmitOf s body time commit permutation bytes .result .answer) ≡ true → Accepts body commit (transmitOf s body time commit permutation bytes .result .sender)
 
 -- A transmission that is DONE accepts a report newer than the accepted one, so over any calls (epoch, round) of the accepted report only rises.
 abbrev pub AcceptsOnlyNewer : Type 0
@@ -128,7 +151,7 @@ pub record Stays (w v : Whole) (slot : ℕ) : Type 0 where
 
 abbrev pub SlotsStay : Type 0
 SlotsStay =
-    (w : Whole) (call : Call) (slot : ℕ) → Good w → slot < slots → taken (w .sender) slot ≡ true → (removedBy w call ≡ [] → Stays w (after w call) slot) × ((slot ≡ earliest (w .sender) (w .slots) → ⊥) → Stays w (after w call) slot)
+    (w : Whole) (call : Call) (slot : ℕ) → Good w → taken (w .sender) slot ≡ true → (removedBy w call ≡ [] → Stays w (after w call) slot) × ((slot ≡ earliest (w .sender) (w .slots) → ⊥) → Stays w (after w call) slot)
 
 -- x is one of a list's entries
 abbrev pub OneOf : Waiting → List Waiting → Type 0
