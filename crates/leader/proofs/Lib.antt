@@ -2,6 +2,7 @@
 pub mod Cases
 pub mod Orders
 pub mod Marked
+pub mod Inserts
 pub mod Lines
 pub mod Tables
 pub mod States

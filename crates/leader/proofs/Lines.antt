@@ -8,7 +8,7 @@ use native.Mathlib.Numerals.{add-one}
 use native.Mathlib.Omega.{arith}
 use lib.IntN.{ℤ}
 use lib.ListN.{length, getD, set, take, drop, length-append, length-take, length-drop, length-map, List·getD-map, drop-of-length-le}
-use lib.Seq.{length-take-le, take-all, take-take, take-suc-set, getD-take, drop-cons}
+use lib.Seq.{length-take-le, take-all, take-take, take-suc-set, drop-cons}
 use Rattle.quorum.specs.Sort.{sort}
 use Rattle.quorum.proofs.Sort.{length-perm, sort-same}
 use Rattle.frame.specs.Message.{Observation, noObservation}
@@ -64,26 +64,23 @@ same-apart [] (y ∷ ys) h = refl
 same-apart (x ∷ xs) [] h = refl
 same-apart (x ∷ xs) (y ∷ ys) h = rw (same-apart xs ys (λ e. h (ap suc e)), and-false)
 
--- the observations of the first `len` members of a line
-module _ (own : List ℕ) (len : ℕ) (values : List ℤ) (within : len ≤ length own) where
-  pub length-own : length (observations (take len own) values) ≡ len
-  length-own = length-map (take len own) (observed values) ∙ length-take-le len own within
-
-  own-at : (i : ℕ) → i < len → getD (observations (take len own) values) i (observed values 0) ≡ observed values (getD own i 0)
-  own-at i h = List·getD-map (observed values) (take len own) i 0 ∙ ap (observed values) (getD-take len own i 0 h)
+-- the observations of a line of members
+module _ (own : List ℕ) (values : List ℤ) where
+  pub length-own : length (observations own values) ≡ length own
+  length-own = length-map own (observed values)
 
   -- for a loop: entry i, and the others
-  module _ (xs : List Observation) (many : length xs ≡ len) where
-    pub same-next : (i : ℕ) → i < len → sameList (drop i xs) (drop i (observations (take len own) values)) ≡ sameEntry (getD xs i noObservation) (observed values (getD own i 0)) && sameList (drop (i + 1) xs) (drop (i + 1) (observations (take len own) values))
+  module _ (xs : List Observation) (many : length xs ≡ length own) where
+    pub same-next : (i : ℕ) → i < length own → sameList (drop i xs) (drop i (observations own values)) ≡ sameEntry (getD xs i noObservation) (observed values (getD own i 0)) && sameList (drop (i + 1) xs) (drop (i + 1) (observations own values))
     unfolding sameList
     same-next i h =
-        let ys = observations (take len own) values in
-        rw (add-one, drop-cons xs i noObservation (omega arith), drop-cons ys i (observed values 0) (rw length-own h), own-at i h)
+        let ys = observations own values in
+        rw (add-one, drop-cons xs i noObservation (omega arith), drop-cons ys i (observed values 0) (rw length-own h), List·getD-map (observed values) own i 0)
 
-    pub same-end : (i : ℕ) → len ≤ i → sameList (drop i xs) (drop i (observations (take len own) values)) ≡ true
+    pub same-end : (i : ℕ) → length own ≤ i → sameList (drop i xs) (drop i (observations own values)) ≡ true
     unfolding sameList
     same-end i h =
-        let ys = observations (take len own) values in
+        let ys = observations own values in
         rw (drop-of-length-le xs {i = i} (omega arith), drop-of-length-le ys {i = i} (rw length-own h))
 
 -- ---- what is lent from a place on
