@@ -36,7 +36,7 @@ static void tell_commit(struct contract *contract, uint8_t to) {
 
 static void submit(struct contract *contract, const struct network *network, struct show *show, uint8_t from,
                    const uint8_t *body, size_t len) {
-    struct frame final = {FINAL, from, body, len};
+    struct frame final = {WEDERBURH_FINAL, from, body, len};
     uint64_t bits = keys_verdicts(&network->keys, network->options.n, network->config.number, &final);
     uint8_t code = wederburh_contract_submit(&contract->lent, body, len, from, clock_now(), bits);
     if (code != WEDERBURH_DONE) {

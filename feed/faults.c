@@ -14,16 +14,16 @@ static void send_other_value(struct faults *faults, uint8_t to, const uint8_t *b
 }
 
 static void send_twice(struct faults *faults, uint8_t to, const uint8_t *bytes, size_t len) {
-    uint8_t own = faults->links->own, kind = bytes[len - TRAILER];
+    uint8_t own = faults->links->own, kind = bytes[len - WEDERBURH_TRAILER];
     links_send(faults->links, own, to, bytes, len);
     links_send(faults->links, own, to, bytes, len);
-    if (kind == OBSERVE) send_other_value(faults, to, bytes, len);
+    if (kind == WEDERBURH_OBSERVE) send_other_value(faults, to, bytes, len);
 }
 
 /* Every check of a delivery finds something to refuse here, and so does the link. */
 static void send_damaged(struct faults *faults, uint8_t to, const uint8_t *bytes, size_t len) {
     uint8_t damaged[PAYLOAD], as = faults->links->own, other = (uint8_t)(as % faults->links->n + 1);
-    uint8_t *trailer = damaged + len - TRAILER;
+    uint8_t *trailer = damaged + len - WEDERBURH_TRAILER;
     memcpy(damaged, bytes, len);
     switch (random_below(&faults->links->random, 9)) {
     case 0: trailer[-1] ^= 1; break;            /* the last signature, in a body that has one */

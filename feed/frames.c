@@ -20,10 +20,10 @@ uint32_t body_epoch(const uint8_t *body) { return (uint32_t)read_number(body, 4)
 uint8_t body_round(const uint8_t *body) { return body[4]; }
 
 bool frame_last(const uint8_t *bytes, size_t len, struct frame *frame) {
-    if (len < TRAILER) return false;
-    const uint8_t *trailer = bytes + len - TRAILER;
+    if (len < WEDERBURH_TRAILER) return false;
+    const uint8_t *trailer = bytes + len - WEDERBURH_TRAILER;
     size_t body = (size_t)read_number(trailer + 4, 4);
-    if (body > len - TRAILER) return false;
+    if (body > len - WEDERBURH_TRAILER) return false;
     *frame = (struct frame){trailer[0], trailer[1], trailer - body, body};
     return true;
 }
@@ -41,11 +41,11 @@ static uint8_t signers(const struct frame *frame) {
 size_t frame_signatures(const struct frame *frame) {
     size_t m = frame->len > 5 ? frame->body[5] : 0, s = signers(frame);
     switch (frame->kind) {
-    case OBSERVE: return frame->len == 77 ? 1 : 0;
-    case REPORT_REQ: return listed((uint8_t)m) && frame->len == 6 + 73 * m ? m : 0;
-    case REPORT: return listed((uint8_t)m) && frame->len == 70 + 9 * m ? 1 : 0;
-    case FINAL:
-    case FINAL_ECHO: return listed((uint8_t)s) && frame->len == 7 + 9 * m + 65 * s ? s : 0;
+    case WEDERBURH_OBSERVE: return frame->len == 77 ? 1 : 0;
+    case WEDERBURH_REPORT_REQ: return listed((uint8_t)m) && frame->len == 6 + 73 * m ? m : 0;
+    case WEDERBURH_REPORT: return listed((uint8_t)m) && frame->len == 70 + 9 * m ? 1 : 0;
+    case WEDERBURH_FINAL:
+    case WEDERBURH_FINAL_ECHO: return listed((uint8_t)s) && frame->len == 7 + 9 * m + 65 * s ? s : 0;
     default: return 0;
     }
 }
@@ -63,17 +63,17 @@ void frame_covered(const struct frame *frame, uint64_t configuration, size_t i, 
     covered->member = frame->sender;
     size_t list = 6 + 9 * (size_t)body[5], entry = 6 + 73 * i;
     switch (frame->kind) {
-    case OBSERVE: /* epoch, round, value */
+    case WEDERBURH_OBSERVE: /* epoch, round, value */
         add(covered, body, 13);
         covered->at = 13;
         break;
-    case REPORT_REQ: /* epoch, round, and the value of the entry */
+    case WEDERBURH_REPORT_REQ: /* epoch, round, and the value of the entry */
         add(covered, body, 5);
         add(covered, body + entry + 1, 8);
         covered->member = body[entry];
         covered->at = entry + 9;
         break;
-    case REPORT: /* epoch, round and the whole list */
+    case WEDERBURH_REPORT: /* epoch, round and the whole list */
         add(covered, body, list);
         covered->at = list;
         break;
@@ -86,5 +86,5 @@ void frame_covered(const struct frame *frame, uint64_t configuration, size_t i, 
 
 const char *kind_name(uint8_t kind) {
     static const char *const NAMES[] = {"", "NEWEPOCH", "OBSERVE-REQ", "OBSERVE", "REPORT-REQ", "REPORT", "FINAL", "FINAL-ECHO"};
-    return kind <= FINAL_ECHO ? NAMES[kind] : "";
+    return kind <= WEDERBURH_FINAL_ECHO ? NAMES[kind] : "";
 }

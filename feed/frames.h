@@ -8,9 +8,6 @@
 
 #include "wederburh.h"
 
-enum kind { NEWEPOCH = 1, OBSERVE_REQ, OBSERVE, REPORT_REQ, REPORT, FINAL, FINAL_ECHO };
-
-#define TRAILER 16
 /* The longest content that a signature covers: configuration number, epoch, round, m and a list of all members. */
 #define CONTENT (8 + 6 + 9 * WEDERBURH_MEMBERS)
 

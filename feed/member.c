@@ -48,10 +48,10 @@ static void tell_refused(struct member *member, uint8_t what, uint8_t code) {
 
 static void send_frame(struct member *member, struct frame *frame, uint8_t *bytes, size_t len) {
     const struct wederburh_config *config = &member->node.node.config;
-    uint8_t leader = (uint8_t)(member->node.node.pace.epoch % config->n + 1);
-    bool own_signature = frame->kind == OBSERVE || frame->kind == REPORT;
+    uint8_t leader = WEDERBURH_LEADER(config->n, member->node.node.pace.epoch);
+    bool own_signature = frame->kind == WEDERBURH_OBSERVE || frame->kind == WEDERBURH_REPORT;
     if (own_signature) keys_sign(&member->network->keys, member->own, config->number, frame, bytes);
-    if (frame->kind == OBSERVE)
+    if (frame->kind == WEDERBURH_OBSERVE)
         tell(member, (struct event){.happened = QUOTED,
                                     .epoch = body_epoch(bytes),
                                     .round = body_round(bytes),
@@ -66,7 +66,7 @@ static void send_frame(struct member *member, struct frame *frame, uint8_t *byte
 static void send_frames(struct member *member, size_t written) {
     struct frame frame;
     if (!frame_last(member->outbox, written, &frame)) return;
-    size_t start = written - TRAILER - frame.len;
+    size_t start = written - WEDERBURH_TRAILER - frame.len;
     send_frames(member, start);
     send_frame(member, &frame, member->outbox + start, written - start);
 }
@@ -133,7 +133,7 @@ static void settle(struct member *member, uint8_t what, const uint8_t *arrived, 
 
 /* The own observation is read when the leader asks for it. A request of another epoch will be refused and needs none. */
 static void observe(struct member *member, const struct frame *frame) {
-    if (frame->kind != OBSERVE_REQ || frame->len != 5) return;
+    if (frame->kind != WEDERBURH_OBSERVE_REQ || frame->len != 5) return;
     uint32_t epoch = body_epoch(frame->body);
     if (epoch != member->node.node.pace.epoch) return;
     member->node.observation = prices_quote(&member->network->options, member->own, epoch, body_round(frame->body));
@@ -142,7 +142,7 @@ static void observe(struct member *member, const struct frame *frame) {
 /* Each member echoes the same body as a rule, so one that was just checked is not checked again: nothing but its body decides. */
 static uint64_t verdicts(struct member *member, const struct frame *frame) {
     const struct wederburh_config *config = &member->node.node.config;
-    bool report = frame->kind == FINAL || frame->kind == FINAL_ECHO;
+    bool report = frame->kind == WEDERBURH_FINAL || frame->kind == WEDERBURH_FINAL_ECHO;
     if (report && frame->len == member->checked_len && memcmp(frame->body, member->checked, frame->len) == 0)
         return member->checked_bits;
     uint64_t bits = keys_verdicts(&member->network->keys, config->n, config->number, frame);
@@ -164,13 +164,13 @@ static void deliver(struct member *member, uint8_t from, const uint8_t *bytes, s
     uint8_t code = wederburh_node_deliver(&member->node, from, now, bits, bytes, len, member->outbox,
                                           sizeof member->outbox, 0, member->kept, sizeof member->kept,
                                           member->signatures, sizeof member->signatures);
-    if (code == WEDERBURH_DONE && frame.kind == OBSERVE)
+    if (code == WEDERBURH_DONE && frame.kind == WEDERBURH_OBSERVE)
         tell(member, (struct event){.happened = TAKEN,
                                     .whose = frame.sender,
                                     .epoch = body_epoch(frame.body),
                                     .round = body_round(frame.body),
                                     .value = (int64_t)read_number(frame.body + 5, 8)});
-    settle(member, frame.kind <= FINAL_ECHO ? frame.kind : NO_FRAME, bytes, now);
+    settle(member, frame.kind <= WEDERBURH_FINAL_ECHO ? frame.kind : NO_FRAME, bytes, now);
 }
 
 static void fire(struct member *member, int timer, uint64_t now) {

@@ -27,6 +27,23 @@ extern "C" {
 #define WEDERBURH_SLOTS 16
 #define WEDERBURH_WAITING 36864   /* bytes of the slots of waiting reports */
 
+/* ---- frames: a body, then a trailer that points back */
+
+#define WEDERBURH_TRAILER 16
+
+enum wederburh_kind {
+    WEDERBURH_NEWEPOCH = 1,
+    WEDERBURH_OBSERVE_REQ = 2,
+    WEDERBURH_OBSERVE = 3,    /* goes to the leader; the others but REPORT to all */
+    WEDERBURH_REPORT_REQ = 4,
+    WEDERBURH_REPORT = 5,     /* goes to the leader */
+    WEDERBURH_FINAL = 6,
+    WEDERBURH_FINAL_ECHO = 7
+};
+
+/* The leader of an epoch from 1 on, in a feed of n members. */
+#define WEDERBURH_LEADER(n, epoch) ((uint8_t)((uint32_t)(epoch) % (uint32_t)(n) + 1))
+
 /* ---- codes: what a call answers, first match wins */
 
 enum wederburh_code {
