@@ -1,3 +1,4 @@
 pub mod Numbers
 pub mod Lent
 pub mod Calls
+pub mod Claims

@@ -1,0 +1,108 @@
+-- A refusal changes nothing: what node, sender and contract claim of their calls by value, carried to the lent structs; and an instance that computes.
+use mathlib.Core.Path.{_≡_, refl, ap}
+use mathlib.Core.Bool.{Bool, true, false, cond}
+use mathlib.Core.List.{List}
+use Prim.Native.Nat.{ℕ}
+use lib.Dec.{eqb}
+use Rattle.node.specs.declared.Fired.{Fired}
+use Rattle.node.specs.declared.Fired.the-variants.{Resend, Progress, Round, Grace}
+use Rattle.node.specs.Event.{Event, whole, delivery, starts, delivers, fires}
+use Rattle.node.specs.Calls as node
+use Rattle.node.proofs.Steps as node-laws
+use Rattle.sender.proofs.Claims as sender-laws
+use Rattle.config.specs.Codes.{numberOf}
+use Rattle.config.specs.declared.Answer.the-variants as answer
+use Rattle.contract.specs.declared.Terms.{Terms}
+use Rattle.contract.specs.State.{goodTerms, freshContract}
+use Rattle.contract.specs.Calls.{depositedOf}
+use Rattle.contract.specs.History.{deposits}
+use Rattle.contract.proofs.Claims as contract-laws
+use Rattle.host.specs.declared.LentNode.{LentNode}
+use Rattle.host.specs.declared.LentSender.{LentSender}
+use Rattle.host.specs.declared.LentContract.{LentContract}
+use Rattle.host.specs.Lent.{afterOut, payingOutcome, withContract}
+use Rattle.host.specs.Calls.{restoreAt, startAt, deliverAt, timerCall, timerAt, senderFreshAt, transmitAt, timeoutAt, contractFreshAt, submitAt, depositAt, withdrawAt}
+use Rattle.host.specs.Claims.{done, NodeStays, NodeRefusals, SenderRefusals, ContractRefusals, RefusalChangesNothing}
+
+-- ---- a node
+
+-- a refused call, whose outcome is told, leaves everything else
+abbrev Keeps : LentNode → List ℕ → List ℕ → List ℕ → node.Out → Type 0
+Keeps l outbox kept signatures o = done (afterOut l o .lent .outcome .answer) ≡ false → NodeStays l outbox kept signatures (afterOut l o)
+
+event-keeps : (l : LentNode) (e : Event) (outbox : List ℕ) (at : ℕ) (kept signatures : List ℕ) → Keeps l outbox kept signatures (node.callOf (l .node) e outbox at kept signatures)
+event-keeps l e outbox at kept signatures h =
+    let u = node-laws.refusal-changes-nothing (whole (l .node) kept signatures) e outbox at h in
+    record { node = u .node; commit = refl; observation = refl; outbox-same = u .outbox-same; kept-same = u .kept; signatures-same = u .signatures }
+
+unarmed-keeps : (l : LentNode) (time : ℕ) (outbox : List ℕ) (at : ℕ) (kept signatures : List ℕ) → Keeps l outbox kept signatures (node.unarmedOf (l .node) time outbox at kept signatures)
+unarmed-keeps l time outbox at kept signatures h =
+    record { node = refl; commit = refl; observation = refl; outbox-same = refl; kept-same = refl; signatures-same = refl }
+
+-- what holds of both ways holds of the one taken
+either : (P : node.Out → Type 0) (b : Bool) (x y : node.Out) → P x → P y → P (cond b x y)
+either P true x y p q = p
+either P false x y p q = q
+
+timer-keeps : (l : LentNode) (number time : ℕ) (outbox : List ℕ) (at : ℕ) (kept signatures : List ℕ) → Keeps l outbox kept signatures (timerCall (l .node) number time outbox at kept signatures)
+unfolding timerCall
+timer-keeps l number time outbox at kept signatures =
+    let P = Keeps l outbox kept signatures in
+    let fired : (t : Fired) → Keeps l outbox kept signatures (node.callOf (l .node) (fires t time) outbox at kept signatures) = λ t. event-keeps l (fires t time) outbox at kept signatures in
+    either P (eqb number 0) _ _ (fired Resend)
+    (either P (eqb number 1) _ _ (fired Progress)
+    (either P (eqb number 2) _ _ (fired Round)
+    (either P (eqb number 3) _ _ (fired Grace) (unarmed-keeps l time outbox at kept signatures))))
+
+node-refusals : (l : LentNode) (outbox : List ℕ) (at : ℕ) (kept signatures : List ℕ) → NodeRefusals l outbox at kept signatures
+unfolding restoreAt startAt deliverAt timerAt
+node-refusals l outbox at kept signatures =
+    record {
+      restore = λ epoch highest h. rw h;
+      start = λ time. event-keeps l (starts time) outbox at kept signatures;
+      deliver = λ link time bits frame. event-keeps l (delivers (delivery link time (l .observation) (l .commit) bits frame)) outbox at kept signatures;
+      timer = λ number time. timer-keeps l number time outbox at kept signatures;
+    }
+
+-- ---- a sender
+
+sender-refusals : (l : LentSender) (slots : List ℕ) → SenderRefusals l slots
+unfolding senderFreshAt transmitAt timeoutAt
+sender-refusals l slots =
+    let kept = sender-laws.refusal-changes-nothing (record { sender = l .sender; slots = slots }) in
+    record {
+      fresh = λ h. rw h;
+      transmit = λ body time permutation h. let u = kept .transmit body time (l .commit) permutation h in (u .0, u .1);
+      timeout = λ time h. kept .timeout time (l .commit) h .0;
+    }
+
+-- ---- a contract
+
+contract-refusals : (l : LentContract) → ContractRefusals l
+unfolding contractFreshAt submitAt depositAt withdrawAt
+contract-refusals l =
+    let kept = contract-laws.refusal-changes-nothing (l .contract) in
+    record {
+      fresh = λ h. rw h;
+      submit = λ body transmitter time bits h. kept .submit body transmitter time bits h;
+      deposit = λ amount h. kept .deposit amount h;
+      withdraw = λ member h. kept .withdraw member h;
+    }
+
+pub refusal-changes-nothing : RefusalChangesNothing
+refusal-changes-nothing = (node-refusals, sender-refusals, contract-refusals)
+
+-- ---- an instance: three of four members may not be faulty, so a contract of such terms is no state, and a deposit is answered STATE
+
+abbrev bad-terms : Terms
+bad-terms = record { observing = 2; sending = 3; n = 4; f = 3 }
+
+abbrev lent-badly : LentContract
+lent-badly = withContract (freshContract bad-terms) (payingOutcome answer.Done 0)
+
+refused-badly : depositAt lent-badly 5 .outcome .answer ≡ 2
+unfolding depositAt depositedOf goodTerms numberOf
+refused-badly = ap numberOf (contract-laws.refused-is-no-contract bad-terms (deposits 5) refl)
+
+stays-badly : depositAt lent-badly 5 .contract ≡ freshContract bad-terms
+stays-badly = contract-refusals lent-badly .deposit 5 (ap done refused-badly)

@@ -1,0 +1,48 @@
+-- What a host may rely on, said of the boundary's own definitions.
+use mathlib.Core.Path.{_≡_}
+use mathlib.Core.Bool.{Bool, false}
+use mathlib.Core.List.{List}
+use Prim.Native.Nat.{ℕ}
+use lib.Dec.{eqb}
+use Rattle.host.specs.declared.LentNode.{LentNode}
+use Rattle.host.specs.declared.LentSender.{LentSender}
+use Rattle.host.specs.declared.LentContract.{LentContract}
+use Rattle.host.specs.Lent.{LentOut}
+use Rattle.host.specs.Calls.{restoreAt, startAt, deliverAt, timerAt, senderFreshAt, transmitAt, timeoutAt, contractFreshAt, submitAt, depositAt, withdrawAt}
+
+-- ---- "Only code 0 changes anything": a refused call leaves the state, what the host has read, and every byte of a lent buffer; it writes the outcome
+
+-- whether the code is 0
+abbrev pub done : ℕ → Bool
+done code = eqb code 0
+
+pub record NodeStays (l : LentNode) (outbox kept signatures : List ℕ) (o : LentOut) : Type 0 where
+  pub node : o .lent .node ≡ l .node
+  pub commit : o .lent .commit ≡ l .commit
+  pub observation : o .lent .observation ≡ l .observation
+  pub outbox-same : o .outbox ≡ outbox
+  pub kept-same : o .kept ≡ kept
+  pub signatures-same : o .signatures ≡ signatures
+
+pub record NodeRefusals (l : LentNode) (outbox : List ℕ) (at : ℕ) (kept signatures : List ℕ) : Type 0 where
+  pub restore : (epoch highest : ℕ) → done (restoreAt l epoch highest .outcome .answer) ≡ false → restoreAt l epoch highest .node ≡ l .node
+  pub start : (time : ℕ) → let o = startAt l time outbox at kept signatures in done (o .lent .outcome .answer) ≡ false → NodeStays l outbox kept signatures o
+  pub deliver : (link time bits : ℕ) (frame : List ℕ) → let o = deliverAt l link time bits frame outbox at kept signatures in done (o .lent .outcome .answer) ≡ false → NodeStays l outbox kept signatures o
+  pub timer : (number time : ℕ) → let o = timerAt l number time outbox at kept signatures in done (o .lent .outcome .answer) ≡ false → NodeStays l outbox kept signatures o
+
+pub record SenderRefusals (l : LentSender) (slots : List ℕ) : Type 0 where
+  pub fresh : done (senderFreshAt l .outcome .answer) ≡ false → senderFreshAt l .sender ≡ l .sender
+  pub transmit : (body : List ℕ) (time : ℕ) (permutation : List ℕ) → let o = transmitAt l body time permutation slots in done (o .lent .outcome .answer) ≡ false → (o .lent .sender ≡ l .sender) × (o .slots ≡ slots)
+  pub timeout : (time : ℕ) → done (timeoutAt l time slots .outcome .answer) ≡ false → timeoutAt l time slots .sender ≡ l .sender
+
+pub record ContractRefusals (l : LentContract) : Type 0 where
+  pub fresh : done (contractFreshAt l .outcome .answer) ≡ false → contractFreshAt l .contract ≡ l .contract
+  pub submit : (body : List ℕ) (transmitter time bits : ℕ) → done (submitAt l body transmitter time bits .outcome .answer) ≡ false → submitAt l body transmitter time bits .contract ≡ l .contract
+  pub deposit : (amount : ℕ) → done (depositAt l amount .outcome .answer) ≡ false → depositAt l amount .contract ≡ l .contract
+  pub withdraw : (member : ℕ) → done (withdrawAt l member .outcome .answer) ≡ false → (withdrawAt l member .contract ≡ l .contract) × (withdrawAt l member .outcome .amount ≡ 0)
+
+abbrev pub RefusalChangesNothing : Type 0
+RefusalChangesNothing =
+    ((l : LentNode) (outbox : List ℕ) (at : ℕ) (kept signatures : List ℕ) → NodeRefusals l outbox at kept signatures)
+    × ((l : LentSender) (slots : List ℕ) → SenderRefusals l slots)
+    × ((l : LentContract) → ContractRefusals l)
