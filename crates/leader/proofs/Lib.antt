@@ -2,7 +2,6 @@
 pub mod Cases
 pub mod Orders
 pub mod Marked
-pub mod Inserts
 pub mod Lines
 pub mod Tables
 pub mod States

@@ -4,5 +4,6 @@ pub mod Counts
 pub mod Marks
 pub mod First
 pub mod Sort
+pub mod Inserts
 pub mod Median
 pub mod Claims
