@@ -24,6 +24,7 @@ use Rattle.frame.specs.Check.{bodyAnswer}
 use Rattle.report.specs.Stands.{notFalling, listFault, bitsFault, repeatFault, signersFault, attestedFault}
 use Rattle.frame.proofs.Checked.{checked-final}
 use Rattle.report.specs.Newer.{newer}
+use Rattle.report.proofs.Order.{newer-trans}
 use Rattle.report.proofs.Stands.{list-fault-nothing, attested-fault-nothing}
 use Rattle.ledger.specs.declared.Account.{Account}
 use Rattle.ledger.specs.declared.Ledger.{Ledger}
@@ -37,7 +38,6 @@ use Rattle.contract.specs.Claims.{DepositsAddUp, RecordsTheHistory, Reco
 use Rattle.contract.proofs.Facts.{terms-facts, contract-facts, good-contract, deposit-passed, withdraw-passed, place-within, submit-passed}
 use Rattle.contract.proofs.Fees.{listedIn}
 use Rattle.contract.proofs.Moves.{Moved, moved-none, moved-then, deposit-moved, withdraw-moved, submit-ready, ready-listed, submit-moved}
-use Rattle.contract.proofs.Rises.{newer-trans}
 use Rattle.contract.proofs.Shares.{earn-share, earn-all-share}
 
 pub refusal-changes-nothing : RefusalChangesNothing

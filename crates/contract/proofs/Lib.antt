@@ -3,6 +3,5 @@ pub mod Facts
 pub mod Fees
 pub mod Moves
 pub mod Shares
-pub mod Rises
 pub mod Listed
 pub mod Claims

@@ -1,12 +1,11 @@
 -- What is handed out, over a run: reports that were checked, each of the node's epoch and round as it goes out, which completes the round. So each is of a later round than the
 -- one before.
 use mathlib.Core.Path.{_≡_, refl, sym, ap, _∙_, subst}
-use mathlib.Core.Bool.{Bool, true, false, cond, or-true, false≢true}
+use mathlib.Core.Bool.{Bool, true, false, cond, false≢true}
 use mathlib.Core.List.{List, [], _∷_, _++_, map}
+use mathlib.Core.Logic.{inl, inr}
 use Prim.Native.Nat.{ℕ, _≤_, _<_}
 use native.Mathlib.Omega.{arith}
-use borrow.Author.Tests.{lt-ltb, eq-eqb}
-use lib.Dec.{ltb}
 use Rattle.config.specs.Limits.{members}
 use Rattle.config.specs.declared.Config.{Config}
 use Rattle.config.specs.declared.Commit.{Commit}
@@ -20,6 +19,7 @@ use Rattle.report.specs.declared.Fault.the-variants as fault
 use Rattle.report.specs.Newer.{newer}
 use Rattle.report.specs.Stands.{valuesOf}
 use Rattle.report.specs.Whole.{finalLength, partOf}
+use Rattle.report.proofs.Order.{newer-of}
 use Rattle.follower.specs.declared.Follower.{Follower}
 use Rattle.follower.specs.declared.Followed.{Followed}
 use Rattle.follower.specs.declared.Raised.the-variants as raised
@@ -198,12 +198,13 @@ past-handed n v a e r c =
 newer-than-past : (n : Node) (a b : Attested) → a .epoch ≡ epochOf n → a .round ≡ n .follower .round → isSet (n .follower .completed) ≡ false → Past n b → newer (a .epoch) (a .round) (b .epoch) (b .round) ≡ true
 newer-than-past n a b e r o p =
     let low = p .epoch in
-    cases (split (a .epoch) (b .epoch))
+    newer-of (a .epoch) (a .round) (b .epoch) (b .round)
+    (cases (split (a .epoch) (b .epoch))
     (λ same.
     let no : b .round ≡ n .follower .round → ⊥ = λ q. false≢true (sym o ∙ p .closed (omega arith) q) in
     let at = p .round (omega arith) in
-    rw (eq-eqb (a .epoch) (b .epoch) (omega arith), lt-ltb (b .round) (a .round) (omega (arith, no))) (or-true (ltb (b .epoch) (a .epoch))))
-    (λ later. rw (lt-ltb (b .epoch) (a .epoch) later))
+    inr (omega arith, omega (arith, no)))
+    (λ later. inl later))
 
 -- with whatever went out last
 record Rises (n : Node) (l : List Attested) : Type 0 where

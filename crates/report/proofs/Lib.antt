@@ -3,5 +3,6 @@ pub mod Values
 pub mod Whole
 pub mod Faults
 pub mod Stands
+pub mod Order
 pub mod Listed
 pub mod Claims

@@ -13,13 +13,13 @@ use Rattle.quorum.specs.Sort.{Perm, done, keep, swap, then}
 use Rattle.quorum.proofs.Sort.{perm-refl, length-perm}
 use Rattle.frame.specs.Claims.{Each}
 use Rattle.report.specs.Newer.{newer}
+use Rattle.report.proofs.Order.{newer-trans}
 use Rattle.sender.specs.declared.Accepted.{Accepted}
 use Rattle.sender.specs.State.{taken}
 use Rattle.sender.specs.Waiting.{Waiting, waiting, earliest}
 use Rattle.sender.specs.Calls.{released, timeoutOf}
 use Rattle.sender.specs.History.{Whole, Call, expires, after, run, queuedBy, removedBy, queuedIn, removedIn}
 use Rattle.sender.specs.Claims.{Good, NotOlder, Rising, Stays, Timeout, AllDue, calling}
-use Rattle.sender.proofs.Newer.{newer-trans}
 use Rattle.sender.proofs.Facts.{TimeoutPassed, timeout-done}
 use Rattle.sender.proofs.Perms.{perm-same, perm-back, perm-last}
 use Rattle.sender.proofs.Queue.{heldAt, each-one, earliest-law, earliest-some}

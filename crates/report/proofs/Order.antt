@@ -7,9 +7,10 @@ use native.Mathlib.Omega.{arith}
 use borrow.Author.Tests.{ltb-true, ltb-false, eqb-true, eqb-false, lt-ltb, le-ltb, eq-eqb, ne-eqb}
 use lib.Dec.{ltb, eqb}
 use Rattle.quorum.proofs.Cases.{cases}
 use Rattle.report.specs.Newer.{newer}
 
-abbrev Above : ℕ → ℕ → ℕ → ℕ → Type 0
+-- what the test says, in numbers
+abbrev pub Above : ℕ → ℕ → ℕ → ℕ → Type 0
 Above e r e′ r′ = (e′ < e) ⊎ ((e ≡ e′) × (r′ < r))
 
 abbrev NotAbove : ℕ → ℕ → ℕ → ℕ → Type 0
@@ -33,7 +34,7 @@ not-above e r e′ r′ = go (ltb e′ e) (eqb e e′) (ltb r′ r) refl refl re
     go false true false f g h k = inr (eqb-true e e′ g, ltb-false r′ r h)
     go false false s f g h k = let ne = eqb-false e e′ g in inl (omega (arith, ltb-false e′ e f))
 
-newer-of : (e r e′ r′ : ℕ) → Above e r e′ r′ → newer e r e′ r′ ≡ true
+pub newer-of : (e r e′ r′ : ℕ) → Above e r e′ r′ → newer e r e′ r′ ≡ true
 newer-of e r e′ r′ (inl h) = rw (lt-ltb e′ e h)
 newer-of e r e′ r′ (inr (h, g)) = rw (le-ltb e′ e (omega arith), eq-eqb e e′ h, lt-ltb r′ r g)
 
