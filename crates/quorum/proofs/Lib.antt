@@ -4,6 +4,7 @@ pub mod Counts
 pub mod Marks
 pub mod First
 pub mod Sort
+pub mod Perms
 pub mod Inserts
 pub mod Median
 pub mod Claims

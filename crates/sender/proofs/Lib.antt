@@ -5,7 +5,6 @@ pub mod Ready
 pub mod Bodies
 pub mod Places
 pub mod Facts
-pub mod Perms
 pub mod Queue
 pub mod Writes
 pub mod Outcomes

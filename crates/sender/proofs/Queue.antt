@@ -11,6 +11,7 @@ use lib.Dec.{ltb, eqb}
 use lib.ListN.{length}
 use Rattle.config.specs.Limits.{slots}
 use Rattle.quorum.specs.Sort.{Perm, then}
+use Rattle.quorum.proofs.Perms.{perm-same, perm-back, perm-last}
 use Rattle.frame.specs.Claims.{Each}
 use Rattle.report.specs.Newer.{newer}
 use Rattle.report.proofs.Order.{not-newer-trans, newer-not, newer-self}
@@ -18,7 +19,6 @@ use Rattle.sender.specs.declared.Sender.{Sender}
 use Rattle.sender.specs.State.{taken, timeOf, reportIn}
 use Rattle.sender.specs.Waiting.{Waiting, waitingBelow, waiting, sooner, earliestBelow, earliest}
 use Rattle.sender.specs.Claims.{OneOf, NotAfter}
-use Rattle.sender.proofs.Perms.{perm-same, perm-back, perm-last}
 
 -- what a slot holds, and the list of that or of nothing
 abbrev pub heldAt : Sender → List ℕ → ℕ → Waiting

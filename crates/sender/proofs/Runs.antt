@@ -11,6 +11,7 @@ use Rattle.config.specs.Limits.{slots}
 use Rattle.config.specs.Bounds.{goodTime, goodCommit}
 use Rattle.quorum.specs.Sort.{Perm, done, keep, swap, then}
 use Rattle.quorum.proofs.Sort.{perm-refl, length-perm}
+use Rattle.quorum.proofs.Perms.{perm-same, perm-back, perm-last}
 use Rattle.frame.specs.Claims.{Each}
 use Rattle.report.specs.Newer.{newer}
 use Rattle.report.proofs.Order.{newer-trans}
@@ -21,7 +22,6 @@ use Rattle.sender.specs.Calls.{released, timeoutOf}
 use Rattle.sender.specs.History.{Whole, Call, expires, after, run, queuedBy, removedBy, queuedIn, removedIn}
 use Rattle.sender.specs.Claims.{Good, NotOlder, Rising, Stays, Timeout, AllDue, calling}
 use Rattle.sender.proofs.Facts.{TimeoutPassed, timeout-done}
-use Rattle.sender.proofs.Perms.{perm-same, perm-back, perm-last}
 use Rattle.sender.proofs.Queue.{heldAt, each-one, earliest-law, earliest-some}
 use Rattle.sender.proofs.Outcomes.{Does, Outcome, refused, not-waiting, to-wait, removed, outcome, removes}
 use Rattle.sender.proofs.Moves.{removed-moved, removed-good, removed-stays, accepted-moved, accepted-good, queued-moved, queued-good, queued-stays}
