@@ -35,7 +35,8 @@ pub entry-at : {A : Type 0} (says : List ℕ → A) (stride many at : ℕ) (b : 
 entry-at says stride many at b i none h =
     entries-at says stride many (drop at b) i none h ∙ ap (λ (x : List ℕ). says (take stride x)) (drop-drop (i * stride) at b)
 
-part-of-take : (m a n : ℕ) (l : List ℕ) → a + m ≤ n → part (take n l) a m ≡ part l a m
+-- a part of the front
+pub part-of-take : (m a n : ℕ) (l : List ℕ) → a + m ≤ n → part (take n l) a m ≡ part l a m
 part-of-take m zero n l h = take-take m n l (omega arith)
 part-of-take m (suc a) zero l h = absurd (not-suc-le-zero (rw suc-add at h))
 part-of-take m (suc a) (suc n) [] h = refl

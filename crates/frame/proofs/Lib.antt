@@ -4,6 +4,7 @@ pub mod Entries
 pub mod Access
 pub mod Readable
 pub mod RoundTrip
+pub mod Fronts
 pub mod Framed
 pub mod Checks
 pub mod Checked

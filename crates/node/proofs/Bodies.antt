@@ -22,6 +22,7 @@ use Rattle.frame.proofs.Entries.{bytes-part}
 use Rattle.frame.proofs.Ranges.{good-attested-facts}
 use Rattle.frame.proofs.Readable.{length-monotone, final-fits}
 use Rattle.frame.proofs.RoundTrip.{length-attested, list-at, signers-at, attested-front}
+use Rattle.frame.proofs.Fronts.{Stands}
 use Rattle.frame.proofs.Checked.{checked-frame}
 use Rattle.frame.proofs.Claims.{read-is-written, body-is-one}
 use Rattle.report.specs.Kept.{keptBytes, keeping}
@@ -34,20 +35,11 @@ use Rattle.node.proofs.Ruled.{Says, said-range, said-well}
 
 -- ---- at the start of bytes
 
-pub record Stands (n : ℕ) (a : Attested) (b : List ℕ) : Type 0 where
-  pub good : goodAttested n a ≡ true
-  pub writable : WritableAttested a
-  pub rest : List ℕ
-  pub bytes : b ≡ attestedBytes a ++ rest
-
 report-in : (l : List ℕ) → 0 < length l → reportIn l ≡ attestedIn l ∷ []
 report-in [] h = absurd (omega arith)
 report-in (b ∷ l) h = refl
 
 module _ (n : ℕ) (a : Attested) (b : List ℕ) (s : Stands n a b) where
-  pub stands-says : attestedIn b ≡ a
-  stands-says = ap attestedIn (s .bytes) ∙ attested-front a (s .writable) (s .rest) (good-attested-facts n a (s .good) .head .epoch .most)
-
   pub stands-long : finalLength b ≡ length (attestedBytes a)
   stands-long =
       ap finalLength (s .bytes)

@@ -15,6 +15,7 @@ use Rattle.price.specs.Median.{medianOf}
 use Rattle.frame.specs.Message.{Signed, Attested, Message, newEpoch, observeReq, observe, reportReq, report, final, finalEcho}
 use Rattle.frame.specs.Encode.{attestedBytes}
 use Rattle.frame.specs.Claims.{Each}
+use Rattle.frame.proofs.Fronts.{Stands, stands-says}
 use Rattle.report.specs.declared.Fault.the-variants as fault
 use Rattle.report.specs.Stands.{valuesOf, attestedFault}
 use Rattle.report.specs.Kept.{keptBytes, keeping}
@@ -37,7 +38,7 @@ use Rattle.node.proofs.Ruled.{Says}
 use Rattle.node.proofs.Taken.{Report, taken-final, taken-echo}
 use Rattle.node.proofs.Turns.{Turn, paced, moved, followed, led, step-turns, raising-epoch}
 use Rattle.node.proofs.Runs.{begun-config}
-use Rattle.node.proofs.Bodies.{Stands, stands-says, kept-stands, brought-good, brought-writable}
+use Rattle.node.proofs.Bodies.{kept-stands, brought-good, brought-writable}
 
 -- ---- what is kept stands there, and was checked
 

@@ -1,72 +1,44 @@
 -- A FINAL body is read from the front: lists of bytes that agree as far as it goes say the same report.
 use mathlib.Core.Path.{_≡_, refl, sym, ap, ap₂, _∙_}
 use mathlib.Core.Bool.{Bool, true, not, cond}
-use mathlib.Core.List.{List, _∷_, _++_}
-use Prim.Native.Nat.{ℕ, zero, suc, _+_, _*_, _≤_, _<_}
-use native.Mathlib.Nat.{le-refl, zero-add, mul-suc, add-comm}
+use mathlib.Core.List.{List, _++_}
+use Prim.Native.Nat.{ℕ, _+_, _*_, _≤_}
+use native.Mathlib.Nat.{le-refl}
 use native.Mathlib.Omega.{arith}
 use borrow.Author.Tests.{eq-eqb}
 use lib.ListN.{length, getD, take, drop}
-use lib.Seq.{getD-take, length-take-le, take-length, take-take, take-at}
+use lib.Seq.{length-take-le, take-length, take-take, take-at}
 use Rattle.config.specs.declared.Answer.the-variants.{Done, Length, Range}
-use Rattle.wire.specs.Numbers.{part, beNumber}
+use Rattle.wire.specs.Numbers.{beNumber}
 use Rattle.frame.specs.Table.{shapeOf, bodyLength}
 use Rattle.frame.specs.Decode.{entries, observationAt, signerAt, countIn, listPlace, listEnd, signerCountIn, attestedIn, messageOf}
 use Rattle.frame.specs.Range.{goodAttested}
 use Rattle.frame.specs.Check.{bodyAnswer}
-use Rattle.frame.proofs.Access.{part-of-part}
+use Rattle.frame.proofs.Fronts.{byte-same, part-same, entries-same}
 use Rattle.report.specs.Whole.{finalLength}
 
--- a part of the front
-pub part-front : (l : List ℕ) (n at k : ℕ) → at + k ≤ n → part (take n l) at k ≡ part l at k
-part-front l n at k h = rw zero-add at (part-of-part l 0 n at k h)
+-- two lists whose first n bytes are the same, and hold a body
+module _ (b c : List ℕ) (n : ℕ) (same : take n b ≡ take n c) (h : finalLength b ≤ n) where
+  count-same : countIn b ≡ countIn c
+  unfolding bodyLength
+  count-same = byte-same b c n same 5 (omega arith)
 
--- entries are read of the bytes that they have, whatever stands behind them
-entries-front : {A : Type 0} (says : List ℕ → A) (stride many : ℕ) (l : List ℕ) → entries says stride many (take (stride * many) l) ≡ entries says stride many l
-unfolding entries
-entries-front says stride zero l = refl
-entries-front says stride (suc many) l =
-    let n = stride * suc many in
-    let e : n ≡ stride + stride * many = mul-suc stride many ∙ add-comm (stride * many) stride in
-    ap₂ _∷_
-    (ap says (take-take stride n l (omega arith)))
-    (sym (entries-front says stride many (drop stride (take n l))) ∙ ap (entries says stride many) (part-front l n stride (stride * many) (omega arith)) ∙ entries-front says stride many (drop stride l))
+  end-same : listEnd b ≡ listEnd c
+  end-same = ap (λ (m : ℕ). listPlace + shapeOf 6 .entry * m) count-same
 
--- two lists whose first n bytes are the same
-module _ (b c : List ℕ) (n : ℕ) (same : take n b ≡ take n c) where
-  byte-same : (i : ℕ) → i < n → getD b i 0 ≡ getD c i 0
-  byte-same i h = sym (getD-take n b i 0 h) ∙ ap (λ (l : List ℕ). getD l i 0) same ∙ getD-take n c i 0 h
+  signer-count-same : signerCountIn b ≡ signerCountIn c
+  unfolding bodyLength
+  signer-count-same = byte-same b c n same (listEnd b) (omega arith) ∙ ap (λ (at : ℕ). getD c at 0) end-same
 
-  part-same : (at k : ℕ) → at + k ≤ n → part b at k ≡ part c at k
-  part-same at k h = sym (part-front b n at k h) ∙ ap (λ (l : List ℕ). part l at k) same ∙ part-front c n at k h
+  final-length-same : finalLength b ≡ finalLength c
+  final-length-same = ap₂ (bodyLength 6) count-same signer-count-same
 
-  entries-same : {A : Type 0} (says : List ℕ → A) (stride many at : ℕ) → at + stride * many ≤ n → entries says stride many (drop at b) ≡ entries says stride many (drop at c)
-  entries-same says stride many at h =
-      sym (entries-front says stride many (drop at b))
-      ∙ ap (entries says stride many) (part-same at (stride * many) h)
-      ∙ entries-front says stride many (drop at c)
-
-  module _ (h : finalLength b ≤ n) where
-    count-same : countIn b ≡ countIn c
-    unfolding bodyLength
-    count-same = byte-same 5 (omega arith)
-
-    end-same : listEnd b ≡ listEnd c
-    end-same = ap (λ (m : ℕ). listPlace + shapeOf 6 .entry * m) count-same
-
-    signer-count-same : signerCountIn b ≡ signerCountIn c
-    unfolding bodyLength
-    signer-count-same = byte-same (listEnd b) (omega arith) ∙ ap (λ (at : ℕ). getD c at 0) end-same
-
-    final-length-same : finalLength b ≡ finalLength c
-    final-length-same = ap₂ (bodyLength 6) count-same signer-count-same
-
-    attested-same : attestedIn b ≡ attestedIn c
-    unfolding bodyLength
-    attested-same =
-        let list = entries-same observationAt (shapeOf 6 .entry) (countIn b) listPlace (omega arith) ∙ ap (λ (m : ℕ). entries observationAt (shapeOf 6 .entry) m (drop listPlace c)) count-same in
-        let signers = entries-same signerAt (shapeOf 6 .signer) (signerCountIn b) (listEnd b + 1) (omega arith) ∙ ap₂ (λ (m at : ℕ). entries signerAt (shapeOf 6 .signer) m (drop (at + 1) c)) signer-count-same end-same in
-        λ i. record { epoch = beNumber (part-same 0 4 (omega arith) i); round = byte-same 4 (omega arith) i; list = list i; signers = signers i }
+  attested-same : attestedIn b ≡ attestedIn c
+  unfolding bodyLength
+  attested-same =
+      let list = entries-same b c n same observationAt (shapeOf 6 .entry) (countIn b) listPlace (omega arith) ∙ ap (λ (m : ℕ). entries observationAt (shapeOf 6 .entry) m (drop listPlace c)) count-same in
+      let signers = entries-same b c n same signerAt (shapeOf 6 .signer) (signerCountIn b) (listEnd b + 1) (omega arith) ∙ ap₂ (λ (m at : ℕ). entries signerAt (shapeOf 6 .signer) m (drop (at + 1) c)) signer-count-same end-same in
+      λ i. record { epoch = beNumber (part-same b c n same 0 4 (omega arith) i); round = byte-same b c n same 4 (omega arith) i; list = list i; signers = signers i }
 
 -- what stands behind a body, and what is cut off behind it, does not matter
 pub attested-append : (b rest : List ℕ) → finalLength b ≤ length b → attestedIn (b ++ rest) ≡ attestedIn b

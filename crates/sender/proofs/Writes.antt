@@ -17,13 +17,14 @@ use Rattle.quorum.specs.Marks.{flags, marked}
 use Rattle.quorum.proofs.Cases.{cases, split}
 use Rattle.frame.specs.Range.{goodAttested}
 use Rattle.frame.specs.Decode.{attestedIn}
+use Rattle.frame.proofs.Access.{part-of-take}
 use Rattle.report.specs.Kept.{keptBytes}
 use Rattle.report.specs.Whole.{finalLength}
 use Rattle.sender.specs.declared.Sender.{Sender}
 use Rattle.sender.specs.State.{slotIn, reportIn, taken, timeOf, goodTimes, goodSlots}
 use Rattle.sender.specs.Waiting.{freeIn}
 use Rattle.sender.specs.Calls.{withSlot}
-use Rattle.sender.proofs.Bodies.{part-front, attested-append}
+use Rattle.sender.proofs.Bodies.{attested-append}
 use Rattle.sender.proofs.Queue.{heldIn}
 
 -- ---- tables in range
@@ -90,9 +91,9 @@ module _ (l : List ℕ) (k : ℕ) (bs : List ℕ) (long : length bs ≡ keptSize
       (λ h. ap (take keptSize) (over-drop bs l (j * keptSize) (k * keptSize) (omega arith)))
       (λ h.
       let r : j * keptSize + keptSize ≤ k * keptSize = omega arith in
-      sym (part-front (over l (k * keptSize) bs) (k * keptSize) (j * keptSize) keptSize r)
+      sym (part-of-take keptSize (j * keptSize) (k * keptSize) (over l (k * keptSize) bs) r)
       ∙ ap (λ (m : List ℕ). take keptSize (drop (j * keptSize) m)) (take-over l (k * keptSize) bs)
-      ∙ part-front l (k * keptSize) (j * keptSize) keptSize r)
+      ∙ part-of-take keptSize (j * keptSize) (k * keptSize) l r)
 
 -- a body that waits stands at its slot's start
 module _ (l : List ℕ) (k : ℕ) (body : List ℕ) (short : length body ≤ keptSize) where
