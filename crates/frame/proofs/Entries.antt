@@ -29,6 +29,11 @@ pub record Entry {A : Type 0} (bytes : A → List ℕ) (says : List ℕ → A) (
   pub forth : (l : List ℕ) → length l ≡ stride → Bytes l → bytes (says l) ≡ l
   pub good : (l : List ℕ) → length l ≡ stride → Bytes l → Good (says l)
 
+-- what holds of each entry of two lists
+pub each-append : {A : Type 0} (P : A → Type 0) (l m : List A) → Each P l → Each P m → Each P (l ++ m)
+each-append P [] m p q = q
+each-append P (a ∷ l) m (p, r) q = (p, each-append P l m r q)
+
 pub length-entries : {A : Type 0} (says : List ℕ → A) (stride many : ℕ) (l : List ℕ) → length (entries says stride many l) ≡ many
 unfolding entries
 length-entries says stride zero l = refl

@@ -15,6 +15,7 @@ use Rattle.price.specs.Median.{medianOf}
 use Rattle.frame.specs.Message.{Signed, Attested, Message, newEpoch, observeReq, observe, reportReq, report, final, finalEcho}
 use Rattle.frame.specs.Decode.{bodyIn}
 use Rattle.frame.specs.Claims.{Each}
+use Rattle.frame.proofs.Entries.{each-append}
 use Rattle.report.specs.declared.Fault.the-variants as fault
 use Rattle.report.specs.Newer.{newer}
 use Rattle.report.specs.Stands.{valuesOf}
@@ -38,7 +39,6 @@ use Rattle.node.specs.Runs.{settledIn, after, reportIn, arriving, handed
 use Rattle.node.specs.Typed.{TypedEvent, TypedEvents}
 use Rattle.node.specs.Claims.{OneOf, Checked, HandedWasChecked, Rising, HandedOnceARound}
 use Rattle.node.proofs.Ruled.{Says}
-use Rattle.node.proofs.Sent.{each-append}
 use Rattle.node.proofs.Taken.{Report, taken-request, taken-echo}
 use Rattle.node.proofs.Turns.{Turn, paced, moved, followed, led, step-turns, raising-epoch}
 use Rattle.node.proofs.Rounds.{leaves, round-stays}

@@ -15,6 +15,7 @@ use Rattle.config.proofs.Facts.{and-true}
 use Rattle.price.specs.Median.{medianOf}
 use Rattle.frame.specs.Message.{Signed, Message, newEpoch, observeReq, observe, reportReq, report, final, finalEcho, kindOf}
 use Rattle.frame.specs.Claims.{Each}
+use Rattle.frame.proofs.Entries.{each-append}
 use Rattle.report.specs.Stands.{valuesOf}
 use Rattle.pacemaker.specs.declared.Sent.{Sent}
 use Rattle.pacemaker.specs.declared.Sent.the-variants as sent
@@ -42,7 +43,7 @@ use Rattle.node.specs.Effects.{announced, asking-for, answering, replyin
 use Rattle.node.specs.Calls.{step}
 use Rattle.node.specs.Runs.{settledIn, after, run, sentBy, sentIn, arriving, handedBy, handedIn}
 use Rattle.node.specs.Claims.{countObserves, FewRoundsAnEpoch, Waits, RestoredWaitsForAMove}
-use Rattle.node.proofs.Sent.{each-append, announced-each}
+use Rattle.node.proofs.Sent.{announced-each}
 use Rattle.node.proofs.Taken.{taken-request, taken-live}
 use Rattle.node.proofs.Turns.{Turn, paced, moved, followed, led, step-turns, raising-epoch}
 use Rattle.node.proofs.Runs.{config-after}

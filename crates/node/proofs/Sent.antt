@@ -1,7 +1,7 @@
 -- What a step sends: at most two messages, of which the first is a NEWEPOCH; and what is for the node's own signature answers the delivery.
 use mathlib.Core.Path.{_≡_, refl}
 use mathlib.Core.Bool.{Bool, true, false, cond}
-use mathlib.Core.List.{List, [], _∷_, _++_, map}
+use mathlib.Core.List.{List, _∷_, _++_, map}
 use Prim.Native.Nat.{ℕ}
 use lib.IntN.{ℤ}
 use lib.ListN.{length}
@@ -11,6 +11,7 @@ use Rattle.price.specs.Median.{medianOf}
 use Rattle.frame.specs.Message.{Signed, Message, newEpoch, observeReq, observe, reportReq, report, final, finalEcho}
 use Rattle.frame.specs.Decode.{messageIn}
 use Rattle.frame.specs.Claims.{Each}
+use Rattle.frame.proofs.Entries.{each-append}
 use Rattle.report.specs.declared.Fault.the-variants as fault
 use Rattle.report.specs.Stands.{listFault, bitsFault, valuesOf}
 use Rattle.report.proofs.Faults.{first-nothing}
@@ -109,10 +110,6 @@ pub new-epoch-goes-first : NewEpochGoesFirst
 new-epoch-goes-first w e f h = few-ruled (step-ruled w e f h .1)
 
 -- ---- for whose signature
-
-pub each-append : {A : Type 0} (P : A → Type 0) (l m : List A) → Each P l → Each P m → Each P (l ++ m)
-each-append P [] m p q = q
-each-append P (a ∷ l) m (p, r) q = (p, each-append P l m r q)
 
 pub announced-each : (P : Message → Type 0) (s : Sent) → ((x : ℕ) → s ≡ sent.NewEpoch x → P (newEpoch x)) → Each P (announced s)
 announced-each P sent.Nothing h = tt

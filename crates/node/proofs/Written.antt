@@ -28,7 +28,7 @@ use Rattle.frame.specs.Range.{goodEpoch, goodRound, oneToN, allMembers, goodEnt
 use Rattle.frame.specs.Claims.{WritableSignature, Each, WritableSigned, WritableAttested, ReadAs, ReadWell}
 use Rattle.frame.proofs.Ranges.{OneTo, one-to, good-head-facts, good-entries-facts, good-entries-map, good-attested-facts}
 use Rattle.frame.proofs.Readable.{frame-fits}
-use Rattle.frame.proofs.Entries.{observation-entry, signed-entry, part-signature}
+use Rattle.frame.proofs.Entries.{each-append, observation-entry, signed-entry, part-signature}
 use Rattle.frame.proofs.RoundTrip.{length-counted, length-attested}
 use Rattle.frame.proofs.Claims.{written-is-read}
 use Rattle.outbox.specs.Written.{ownFrame, ownSignature, valueOf, observed, Members}
@@ -66,7 +66,7 @@ use Rattle.node.proofs.Ready.{room-facts}
 use Rattle.node.proofs.Steps.{good-node, call-is-the-step}
 use Rattle.node.proofs.Ruled.{Says, heardFrom, Ruled, by-start, by-resend, by-progress, by-round, by-grace, by-hearing, by-moving, by-following, by-observe, by-report, step-ruled, config-ruled, said-range, said-well}
 use Rattle.node.proofs.Cases.{begun-cases, round-led, raised-past, report-in-time}
-use Rattle.node.proofs.Sent.{new-epoch-goes-first, each-append, announced-each, replying-each}
+use Rattle.node.proofs.Sent.{new-epoch-goes-first, announced-each, replying-each}
 
 -- ---- numbers
 

@@ -13,6 +13,7 @@ use Rattle.config.specs.Limits.{slots}
 use Rattle.quorum.specs.Sort.{Perm, then}
 use Rattle.quorum.proofs.Perms.{perm-same, perm-back, perm-last}
 use Rattle.frame.specs.Claims.{Each}
+use Rattle.frame.proofs.Entries.{each-append}
 use Rattle.report.specs.Newer.{newer}
 use Rattle.report.proofs.Order.{not-newer-trans, newer-not, newer-self}
 use Rattle.sender.specs.declared.Sender.{Sender}
@@ -54,10 +55,6 @@ module _ (s t : Sender) (b c : List ℕ) where
           (perm-last (waitingBelow m t c) (heldIn s b k) (heldIn t c m))))
 
 -- ---- what holds of each that waits
-
-each-append : (P : Waiting → Type 0) (l m : List Waiting) → Each P l → Each P m → Each P (l ++ m)
-each-append P [] m h g = g
-each-append P (x ∷ l) m h g = (h .0, each-append P l m (h .1) g)
 
 pub each-one : (P : Waiting → Type 0) (x : Waiting) (l : List Waiting) → Each P l → OneOf x l → P x
 each-one P x [] h g = absurd g
