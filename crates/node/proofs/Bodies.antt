@@ -1,17 +1,14 @@
--- A report whose body stands at the start of some bytes: what is read there, and what is cut off there, is that report. So it is with a kept buffer, and with the frame that
--- brings a report.
+-- A report whose body stands at the start of some bytes: what is cut off there is that report. So it is with the frame that brings a report.
 use mathlib.Core.Path.{_≡_, refl, sym, ap, ap₂, _∙_}
 use mathlib.Core.Bool.{Bool, true, false, cond}
-use mathlib.Core.List.{List, [], _∷_, _++_, append-assoc, append-nil}
-use Prim.Native.Nat.{ℕ, _+_, _-_, _≤_, _<_}
+use mathlib.Core.List.{List, [], _∷_, _++_, append-nil}
+use Prim.Native.Nat.{ℕ, _+_, _-_, _<_}
 use native.Mathlib.Omega.{arith}
 use borrow.Author.Tests.{le-ltb}
 use lib.Dec.{ltb}
-use lib.ListN.{length, drop, replicate, length-append, length-replicate}
+use lib.ListN.{length, length-append}
 use lib.Seq.{take-at}
-use Rattle.config.specs.Limits.{members, keptSize}
 use Rattle.wire.specs.Numbers.{Bytes, part}
-use Rattle.wire.proofs.Overlay.{over-eq}
 use Rattle.frame.specs.Message.{Attested, Message, final, finalEcho, kindOf}
 use Rattle.frame.specs.Table.{bodyLength, versionOf}
 use Rattle.frame.specs.Encode.{attestedBytes, bodyBytes, trailerBytes, frameBytes}
@@ -20,12 +17,10 @@ use Rattle.frame.specs.Range.{goodAttested, goodMessage}
 use Rattle.frame.specs.Claims.{WritableAttested, Writable}
 use Rattle.frame.proofs.Entries.{bytes-part}
 use Rattle.frame.proofs.Ranges.{good-attested-facts}
-use Rattle.frame.proofs.Readable.{length-monotone, final-fits}
 use Rattle.frame.proofs.RoundTrip.{length-attested, list-at, signers-at, attested-front}
 use Rattle.frame.proofs.Fronts.{Stands}
 use Rattle.frame.proofs.Checked.{checked-frame}
 use Rattle.frame.proofs.Claims.{read-is-written, body-is-one}
-use Rattle.report.specs.Kept.{keptBytes, keeping}
 use Rattle.report.specs.Whole.{finalLength, partOf}
 use Rattle.follower.specs.Claims.{Carries}
 use Rattle.node.specs.declared.Node.{Node}
@@ -68,18 +63,6 @@ none-handed b = ap reportIn (go (ltb (length b) 0) (ltb (length b - 0) 0))
     go true y = refl
     go false true = refl
     go false false = refl
-
--- ---- in a buffer where it is kept
-
-pub kept-stands : (n : ℕ) (a : Attested) (buffer : List ℕ) → n ≤ members → goodAttested n a ≡ true → WritableAttested a → keptSize ≤ length buffer → Stands n a (keeping buffer (attestedBytes a))
-kept-stands n a buffer few good w room =
-    let body = attestedBytes a in
-    let zeros : List ℕ = replicate (keptSize - length body) 0 in
-    let g = good-attested-facts n a good in
-    let fits : length body ≤ keptSize = omega (arith, length-attested a w, length-monotone 6 (length (a .list)) n (length (a .signers)) n (g .list .count .most) (g .signers .count .most), final-fits n few) in
-    let long : length (keptBytes body) ≡ keptSize = length-append body zeros ∙ rw length-replicate (omega arith) in
-    let behind = drop (0 + length (keptBytes body)) buffer in
-    record { good = good; writable = w; rest = zeros ++ behind; bytes = over-eq buffer 0 (keptBytes body) (omega arith) ∙ append-assoc body zeros behind }
 
 -- ---- in a frame that brings it
 

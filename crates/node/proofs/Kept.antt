@@ -19,6 +19,7 @@ use Rattle.frame.proofs.Fronts.{Stands, stands-says}
 use Rattle.report.specs.declared.Fault.the-variants as fault
 use Rattle.report.specs.Stands.{valuesOf, attestedFault}
 use Rattle.report.specs.Kept.{keptBytes, keeping}
+use Rattle.report.proofs.Kept.{kept-stands}
 use Rattle.follower.specs.declared.Follower.{Follower}
 use Rattle.follower.specs.declared.Followed.{Followed}
 use Rattle.follower.specs.State.{isSet}
@@ -38,7 +39,7 @@ use Rattle.node.proofs.Ruled.{Says}
 use Rattle.node.proofs.Taken.{Report, taken-final, taken-echo}
 use Rattle.node.proofs.Turns.{Turn, paced, moved, followed, led, step-turns, raising-epoch}
 use Rattle.node.proofs.Runs.{begun-config}
-use Rattle.node.proofs.Bodies.{kept-stands, brought-good, brought-writable}
+use Rattle.node.proofs.Bodies.{brought-good, brought-writable}
 
 -- ---- what is kept stands there, and was checked
 

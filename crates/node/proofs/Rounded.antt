@@ -31,6 +31,7 @@ use Rattle.report.specs.Stands.{notFalling, listFault, bitsFault, repeatFault, 
 use Rattle.report.specs.Newer.{newer}
 use Rattle.report.specs.Kept.{keptBytes, keeping, cleared}
 use Rattle.report.specs.Whole.{finalLength, partOf}
+use Rattle.report.proofs.Kept.{kept-stands}
 use Rattle.pacemaker.specs.State.{goodPace}
 use Rattle.pacemaker.specs.Rules as pacemaker
 use Rattle.follower.specs.State.{isSet, goodFollower}
@@ -51,7 +52,7 @@ use Rattle.node.proofs.Written.{frames-stand}
 use Rattle.node.proofs.Closed.{good-stays-good}
 use Rattle.node.proofs.Runs.{configuration-stays, always-good}
 use Rattle.node.proofs.Rounds.{few-rounds-an-epoch, restored-waits-for-a-move}
-use Rattle.node.proofs.Bodies.{stands-long, stands-handed, none-handed, kept-stands}
+use Rattle.node.proofs.Bodies.{stands-long, stands-handed, none-handed}
 use Rattle.node.proofs.Kept.{kept-was-checked}
 use Rattle.node.proofs.Handed.{handed-was-checked, handed-once-a-round}
 use Rattle.node.proofs.Order.{after-any-list, epoch-order-decides-nothing, observation-order-decides-nothing}

@@ -1,36 +1,34 @@
 -- The claims of `specs/Claims.antt`, and one small report of each answer.
-use mathlib.Core.Bool.{true, _&&_, or-true}
-use mathlib.Core.List.{List, [], _∷_, _++_, map, append-assoc}
-use mathlib.Core.Path.{_≡_, refl, ap, _∙_}
-use Prim.Native.Nat.{ℕ, _+_, _-_, _^_, _≤_}
+use mathlib.Core.Bool.{true, or-true}
+use mathlib.Core.List.{List, [], _∷_, map}
+use mathlib.Core.Path.{_≡_, refl}
+use Prim.Native.Nat.{ℕ, _^_}
 use native.Mathlib.Omega.{arith}
-use borrow.Author.Tests.{leb-true, ltb-true}
-use lib.Dec.{leb, ltb, eqb}
+use borrow.Author.Tests.{ltb-true}
+use lib.Dec.{ltb, eqb}
 use lib.IntN.{pos}
-use lib.ListN.{length, drop, replicate, length-append, length-replicate}
+use lib.ListN.{replicate, length-replicate}
 use mir.Syntax.{w64}
 use mir.Val.{SFits}
-use Rattle.config.specs.Limits.{members, keptSize, lastEpoch, signatureSize}
+use Rattle.config.specs.Limits.{keptSize, signatureSize}
 use Rattle.config.specs.Codes.{numberOf}
-use Rattle.config.proofs.Facts.{and-true}
 use Rattle.wire.proofs.Numbers.{bytes-replicate}
-use Rattle.wire.proofs.Overlay.{over-eq}
 use Rattle.quorum.specs.First.{firstAt, among}
 use Rattle.quorum.proofs.Claims.{middle-of-members}
 use Rattle.price.specs.Median.{medianOf}
-use Rattle.frame.specs.Message.{Observation, Signer, Attested, noObservation, blank}
+use Rattle.frame.specs.Message.{Observation, Attested, noObservation, blank}
 use Rattle.frame.specs.Encode.{attestedBytes}
 use Rattle.frame.specs.Decode.{attestedIn}
-use Rattle.frame.specs.Range.{oneToN, allMembers, goodEntries, goodEpoch, goodRound, goodObservations, goodSigners, goodAttested}
+use Rattle.frame.specs.Range.{allMembers}
 use Rattle.frame.specs.Claims.{WritableSignature, WritableAttested}
-use Rattle.frame.proofs.Readable.{length-monotone, final-fits}
-use Rattle.frame.proofs.RoundTrip.{length-attested, attested-front}
+use Rattle.frame.proofs.Fronts.{stands-says}
 use Rattle.report.specs.declared.Fault.the-variants.{Nothing, Few, Falling, Twice, TooFewSigners, SignerTwice, ClearBit}
 use Rattle.report.specs.Stands.{membersOf, valuesOf, notFalling, listFault, bitsFault, repeatFault, signersFault, attestedFault}
-use Rattle.report.specs.Kept.{keptBytes, keeping}
+use Rattle.report.specs.Kept.{keeping}
 use Rattle.report.specs.Claims.{DoneIsNothing, byValue, MedianBetween, MedianIsBetween, KeptSaysTheReport}
 use Rattle.report.proofs.Values.{leZ-same, leZ-trans, median-values}
 use Rattle.report.proofs.Faults.{done-nothing}
+use Rattle.report.proofs.Kept.{kept-stands}
 use Rattle.report.proofs.Stands.{not-falling-sorted, list-fault-nothing}
 
 pub done-is-nothing : DoneIsNothing
@@ -46,36 +44,8 @@ median-is-between f l bad all e within few =
 
 -- ---- kept reports
 
-one-to-n : (n x : ℕ) → oneToN n x ≡ true → x ≤ n
-one-to-n n x h = leb-true x n (and-true (leb 1 x) (leb x n) h .1)
-
-entries-most : {A : Type 0} (n : ℕ) (member : A → ℕ) (l : List A) → goodEntries n member l ≡ true → length l ≤ n
-entries-most n member l h = one-to-n n (length l) (and-true (oneToN n (length l)) (allMembers n member l) h .0)
-
--- a report in range is short enough to be kept
-kept-fits : (n : ℕ) (a : Attested) → n ≤ members → goodAttested n a ≡ true → WritableAttested a → (a .epoch ≤ lastEpoch) × (length (attestedBytes a) ≤ keptSize)
-kept-fits n a h good w =
-    let p = and-true (goodEpoch (a .epoch) && goodRound (a .round) && goodObservations n (a .list)) (goodSigners n (a .signers)) good in
-    let q = and-true (goodEpoch (a .epoch) && goodRound (a .round)) (goodObservations n (a .list)) (p .0) in
-    let listed = entries-most n (λ (o : Observation). o .member) (a .list) (q .1) in
-    let signed = entries-most n (λ (x : Signer). x .member) (a .signers) (p .1) in (
-      one-to-n lastEpoch (a .epoch) (and-true (goodEpoch (a .epoch)) (goodRound (a .round)) (q .0) .0),
-      omega (arith, length-attested a w, length-monotone 6 (length (a .list)) n (length (a .signers)) n listed signed, final-fits n h),
-    )
-
--- a body that is kept stands at the start, whatever the buffer held
-kept-front : (buffer body : List ℕ) → length body ≤ keptSize → keptSize ≤ length buffer → (rest : List ℕ) × (keeping buffer body ≡ body ++ rest)
-kept-front buffer body h g =
-    let zeros : List ℕ = replicate (keptSize - length body) 0 in
-    let long : length (keptBytes body) ≡ keptSize = length-append body zeros ∙ rw length-replicate (omega arith) in
-    let behind = drop (0 + length (keptBytes body)) buffer in
-    (zeros ++ behind, over-eq buffer 0 (keptBytes body) (omega arith) ∙ append-assoc body zeros behind)
-
 pub kept-says-the-report : KeptSaysTheReport
-kept-says-the-report n a buffer h good w g =
-    let fits = kept-fits n a h good w in
-    let (rest, e) = kept-front buffer (attestedBytes a) (fits .1) g in
-    ap attestedIn e ∙ attested-front a w rest (fits .0)
+kept-says-the-report n a buffer h good w g = stands-says n a (keeping buffer (attestedBytes a)) (kept-stands n a buffer h good w g)
 
 -- ---- instances: n = 4 and f = 1
 

@@ -4,5 +4,6 @@ pub mod Whole
 pub mod Faults
 pub mod Stands
 pub mod Order
+pub mod Kept
 pub mod Listed
 pub mod Claims

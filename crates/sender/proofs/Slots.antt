@@ -8,7 +8,7 @@ use native.Mathlib.Numerals.{add-one}
 use native.Mathlib.Omega.{arith}
 use borrow.Author.Tests.{ne-eqb}
 use lib.Dec.{eqb, leb}
-use lib.ListN.{length, getD, take, drop, replicate, length-append, length-drop, length-replicate}
+use lib.ListN.{length, getD, take, drop, length-drop}
 use lib.Seq.{length-take-le, drop-cons, getD-take, getD-drop}
 use borrow.Rule.Slice.PartMut.{midOf, putMid}
 use Rattle.config.specs.Limits.{members, lastTime, longestDelay, keptSize, slots, waitingSize}
@@ -20,6 +20,7 @@ use Rattle.frame.specs.Check.{bodyAnswer}
 use Rattle.frame.proofs.Readable.{length-monotone, final-fits}
 use Rattle.frame.proofs.Checked.{checked-final}
 use Rattle.report.specs.Kept.{keptBytes, keeping}
+use Rattle.report.proofs.Kept.{length-kept}
 use Rattle.sender.specs.declared.Sender.{Sender}
 use Rattle.sender.specs.State.{slotIn, taken, goodTimes}
 use Rattle.sender.specs.Waiting.{sooner, earliestBelow, freeIn}
@@ -44,7 +45,7 @@ body-fits n body h e =
 -- a body kept in the part of the bytes that a slot begins fills the slot
 pub slot-keep : (waiting left body : List ℕ) (slot : ℕ) → waitingSize ≤ length waiting → slot < slots → length body ≤ keptSize → left ≡ keeping (midOf (slot * keptSize) (length waiting - slot * keptSize) waiting) body → putMid (slot * keptSize) (length waiting - slot * keptSize) waiting left ≡ over waiting (slot * keptSize) (keptBytes body)
 slot-keep waiting left body slot room h short e =
-    let long : length (keptBytes body) ≡ keptSize = length-append body (replicate (keptSize - length body) 0) ∙ rw length-replicate (omega arith) in
+    let long = length-kept body short in
     lent-start waiting left (slot * keptSize) (length waiting - slot * keptSize) (keptBytes body) e (omega arith) (omega arith)
 
 -- ---- times

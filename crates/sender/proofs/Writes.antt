@@ -7,7 +7,7 @@ use native.Mathlib.Omega.{arith}
 use borrow.Author.Count.{below-more}
 use borrow.Author.Tests.{le-leb, eqb-true, eqb-false}
 use lib.Dec.{eqb, leb}
-use lib.ListN.{length, set, take, drop, replicate, length-append, length-replicate}
+use lib.ListN.{length, set, take, drop, replicate}
 use lib.Seq.{getD-set-same, getD-set-other}
 use Rattle.config.specs.Limits.{keptSize, slots, lastTime, longestDelay}
 use Rattle.config.proofs.Facts.{and-true}
@@ -20,6 +20,7 @@ use Rattle.frame.specs.Decode.{attestedIn}
 use Rattle.frame.proofs.Access.{part-of-take}
 use Rattle.report.specs.Kept.{keptBytes}
 use Rattle.report.specs.Whole.{finalLength}
+use Rattle.report.proofs.Kept.{length-kept}
 use Rattle.sender.specs.declared.Sender.{Sender}
 use Rattle.sender.specs.State.{slotIn, reportIn, taken, timeOf, goodTimes, goodSlots}
 use Rattle.sender.specs.Waiting.{freeIn}
@@ -97,14 +98,11 @@ module _ (l : List ℕ) (k : ℕ) (bs : List ℕ) (long : length bs ≡ keptSize
 
 -- a body that waits stands at its slot's start
 module _ (l : List ℕ) (k : ℕ) (body : List ℕ) (short : length body ≤ keptSize) where
-  kept-long : length (keptBytes body) ≡ keptSize
-  kept-long = length-append body (replicate (keptSize - length body) 0) ∙ rw length-replicate (omega arith)
-
   pub report-here : finalLength body ≤ length body → suc k * keptSize ≤ length l → reportIn (over l (k * keptSize) (keptBytes body)) k ≡ attestedIn body
-  report-here whole h = ap attestedIn (slot-here l k (keptBytes body) kept-long h) ∙ attested-append body (replicate (keptSize - length body) 0) whole
+  report-here whole h = ap attestedIn (slot-here l k (keptBytes body) (length-kept body short) h) ∙ attested-append body (replicate (keptSize - length body) 0) whole
 
   pub kept-other : (j : ℕ) → (j ≡ k → ⊥) → slotIn (over l (k * keptSize) (keptBytes body)) j ≡ slotIn l j
-  kept-other j apart = slot-other l k (keptBytes body) kept-long j apart
+  kept-other j apart = slot-other l k (keptBytes body) (length-kept body short) j apart
 
   pub report-other : (j : ℕ) → (j ≡ k → ⊥) → reportIn (over l (k * keptSize) (keptBytes body)) j ≡ reportIn l j
   report-other j apart = ap attestedIn (kept-other j apart)
