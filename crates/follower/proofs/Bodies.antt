@@ -10,12 +10,11 @@ use Rattle.config.specs.Limits.{members, keptSize}
 use Rattle.config.specs.declared.Answer.the-variants.{Done}
 use Rattle.frame.specs.Message.{Message, newEpoch, observeReq, observe, reportReq, report, final, finalEcho}
 use Rattle.frame.specs.Table.{shapeOf}
-use Rattle.frame.specs.Decode.{epochIn, roundIn, valueIn, observeSignature, countIn, listPlace, signedAt, observationsIn, signedIn, reportSignature, signerCountIn, attestedIn, messageOf}
+use Rattle.frame.specs.Decode.{epochIn, roundIn, valueIn, observeSignature, countIn, listPlace, signedAt, observationsIn, signedIn, reportSignature, attestedIn, messageOf}
 use Rattle.frame.specs.Check.{bodyAnswer}
 use Rattle.frame.proofs.Ranges.{kind-cases}
 use Rattle.frame.proofs.Entries.{length-entries}
-use Rattle.frame.proofs.Readable.{length-monotone, final-fits}
-use Rattle.frame.proofs.Checked.{said-in, checked-report-req, CheckedFinal, checked-final, checked-final-echo}
+use Rattle.frame.proofs.Checked.{said-in, checked-report-req, CheckedFinal, checked-final, checked-final-echo, checked-fits}
 use Rattle.report.specs.Faults.{firstFault}
 use Rattle.report.specs.Stands.{listFault, bitsFault}
 use Rattle.report.specs.Whole.{WholeList, WholeReport}
@@ -73,6 +72,4 @@ module _ (n kind : ℕ) (b : List ℕ) (low : 6 ≤ kind) (high : kind ≤ 7) (e
   whole-report = record { within = omega (arith, checked-attested .whole) }
 
   pub fits-kept : n ≤ members → length b ≤ keptSize
-  fits-kept h =
-      let f = checked-attested in
-      omega (arith, f .whole, length-monotone 6 (countIn b) n (signerCountIn b) n (f .list .count .most) (f .signers .most), final-fits n h)
+  fits-kept h = checked-fits n b h checked-attested

@@ -6,7 +6,7 @@ use Prim.Native.Nat.{ℕ, _+_, _*_, _≤_, _<_}
 use native.Mathlib.Omega.{arith}
 use borrow.Author.Tests.{eqb-true, le-leb}
 use lib.ListN.{length, getD, drop}
-use Rattle.config.specs.Limits.{signatureSize, lastEpoch}
+use Rattle.config.specs.Limits.{members, keptSize, signatureSize, lastEpoch}
 use Rattle.config.specs.declared.Answer.the-variants.{Done}
 use Rattle.config.proofs.Facts.{and-true}
 use Rattle.frame.specs.Message.{Observation, Signed, noObservation, noSigner}
@@ -16,7 +16,7 @@ use Rattle.frame.specs.Range.{goodEpoch, goodRound, goodEntries, goodObs
 use Rattle.frame.specs.Check.{bodyAnswer, frameAnswer}
 use Rattle.frame.proofs.Ranges.{OneTo, one-to, kind-cases, GoodHead, good-head-facts, GoodEntries, good-entries-facts, good-entries-map, good-attested-facts}
 use Rattle.frame.proofs.Entries.{length-entries, map-entries}
-use Rattle.frame.proofs.Readable.{readable-exact}
+use Rattle.frame.proofs.Readable.{length-monotone, final-fits, readable-exact}
 use Rattle.frame.proofs.Framed.{Passed, passed-body, passed-all}
 
 -- ---- any body
@@ -174,6 +174,11 @@ checked-final n b e =
 pub checked-final-echo : (n : ℕ) (b : List ℕ) → bodyAnswer n 7 b ≡ Done → CheckedFinal n b
 unfolding bodyAnswer bodyLength messageOf
 checked-final-echo n b e = checked-final n b e
+
+-- it fits a kept buffer
+pub checked-fits : (n : ℕ) (b : List ℕ) → n ≤ members → CheckedFinal n b → length b ≤ keptSize
+checked-fits n b h f =
+    omega (arith, f .whole, length-monotone 6 (countIn b) n (signerCountIn b) n (f .list .count .most) (f .signers .most), final-fits n h)
 
 -- ---- frames
 

@@ -15,10 +15,8 @@ use Rattle.config.specs.Limits.{members, lastTime, longestDelay, keptSize, slot
 use Rattle.config.specs.declared.Answer.the-variants.{Done}
 use Rattle.wire.specs.Overlay.{over}
 use Rattle.wire.proofs.Overlay.{lent-start}
-use Rattle.frame.specs.Decode.{countIn, signerCountIn}
 use Rattle.frame.specs.Check.{bodyAnswer}
-use Rattle.frame.proofs.Readable.{length-monotone, final-fits}
-use Rattle.frame.proofs.Checked.{checked-final}
+use Rattle.frame.proofs.Checked.{checked-final, checked-fits}
 use Rattle.report.specs.Kept.{keptBytes, keeping}
 use Rattle.report.proofs.Kept.{length-kept}
 use Rattle.sender.specs.declared.Sender.{Sender}
@@ -38,9 +36,7 @@ slot-at waiting bytes slot i e h =
 -- ---- bodies
 
 pub body-fits : (n : ℕ) (body : List ℕ) → n ≤ members → bodyAnswer n 6 body ≡ Done → length body ≤ keptSize
-body-fits n body h e =
-    let f = checked-final n body e in
-    omega (arith, f .whole, length-monotone 6 (countIn body) n (signerCountIn body) n (f .list .count .most) (f .signers .most), final-fits n h)
+body-fits n body h e = checked-fits n body h (checked-final n body e)
 
 -- a body kept in the part of the bytes that a slot begins fills the slot
 pub slot-keep : (waiting left body : List ℕ) (slot : ℕ) → waitingSize ≤ length waiting → slot < slots → length body ≤ keptSize → left ≡ keeping (midOf (slot * keptSize) (length waiting - slot * keptSize) waiting) body → putMid (slot * keptSize) (length waiting - slot * keptSize) waiting left ≡ over waiting (slot * keptSize) (keptBytes body)
