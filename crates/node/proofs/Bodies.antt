@@ -1,11 +1,9 @@
 -- A report whose body stands at the start of some bytes: what is cut off there is that report. So it is with the frame that brings a report.
 use mathlib.Core.Path.{_≡_, refl, sym, ap, ap₂, _∙_}
-use mathlib.Core.Bool.{Bool, true, false, cond}
+use mathlib.Core.Bool.{true}
 use mathlib.Core.List.{List, [], _∷_, _++_, append-nil}
 use Prim.Native.Nat.{ℕ, _+_, _-_, _<_}
 use native.Mathlib.Omega.{arith}
-use borrow.Author.Tests.{le-ltb}
-use lib.Dec.{ltb}
 use lib.ListN.{length, length-append}
 use lib.Seq.{take-at}
 use Rattle.wire.specs.Numbers.{Bytes, part}
@@ -22,6 +20,7 @@ use Rattle.frame.proofs.Fronts.{Stands}
 use Rattle.frame.proofs.Checked.{checked-frame}
 use Rattle.frame.proofs.Claims.{read-is-written, body-is-one}
 use Rattle.report.specs.Whole.{finalLength, partOf}
+use Rattle.report.proofs.Whole.{part-within, part-none}
 use Rattle.follower.specs.Claims.{Carries}
 use Rattle.node.specs.declared.Node.{Node}
 use Rattle.node.specs.Event.{Delivery}
@@ -45,8 +44,9 @@ module _ (n : ℕ) (a : Attested) (b : List ℕ) (s : Stands n a b) where
   stands-part : partOf b 0 (length (attestedBytes a)) ≡ attestedBytes a
   stands-part =
       let long : length b ≡ length (attestedBytes a) + length (s .rest) = ap length (s .bytes) ∙ length-append (attestedBytes a) (s .rest) in
-      rw (le-ltb (length b) 0 (omega arith), le-ltb (length b - 0) (length (attestedBytes a)) (omega arith))
-      (ap (λ (l : List ℕ). part l 0 (length (attestedBytes a))) (s .bytes) ∙ take-at (attestedBytes a) (s .rest) (length (attestedBytes a)) refl)
+      part-within b 0 (length (attestedBytes a)) (omega arith)
+      ∙ ap (λ (l : List ℕ). part l 0 (length (attestedBytes a))) (s .bytes)
+      ∙ take-at (attestedBytes a) (s .rest) (length (attestedBytes a)) refl
 
   pub stands-handed : reportIn (partOf b 0 (length (attestedBytes a))) ≡ a ∷ []
   unfolding bodyLength
@@ -57,12 +57,7 @@ module _ (n : ℕ) (a : Attested) (b : List ℕ) (s : Stands n a b) where
 
 -- an empty part hands out nothing
 pub none-handed : (b : List ℕ) → reportIn (partOf b 0 0) ≡ []
-none-handed b = ap reportIn (go (ltb (length b) 0) (ltb (length b - 0) 0))
-  where
-    go : (x y : Bool) → cond x [] (cond y [] (part b 0 0)) ≡ []
-    go true y = refl
-    go false true = refl
-    go false false = refl
+none-handed b = ap reportIn (part-none b)
 
 -- ---- in a frame that brings it
 

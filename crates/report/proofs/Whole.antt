@@ -1,16 +1,18 @@
--- What lies within a body that holds a whole list or a whole report, and the members that its entries begin with. Other crates cite it.
-use mathlib.Core.List.{List, _∷_, map}
+-- What lies within a body that holds a whole list or a whole report, a part that lies within some bytes, and the members that entries begin with. Other crates cite it.
+use mathlib.Core.List.{List, [], _∷_, map}
 use mathlib.Core.Path.{_≡_, refl, sym, ap, ap₂, _∙_}
-use Prim.Native.Nat.{ℕ, zero, suc, _+_, _*_, _≤_, _<_}
+use Prim.Native.Nat.{ℕ, zero, suc, _+_, _-_, _*_, _≤_, _<_}
 use native.Mathlib.Omega.{arith}
+use borrow.Author.Tests.{le-ltb}
 use lib.Dec.{eqb}
 use lib.ListN.{length, getD, take, drop, length-map}
 use lib.Seq.{getD-take}
+use Rattle.wire.specs.Numbers.{part}
 use Rattle.quorum.specs.First.{column, firstRepeat, distinct}
 use Rattle.frame.specs.Table.{shapeOf, bodyLength}
 use Rattle.frame.specs.Decode.{entries, signerCountIn, listPlace, listEnd, SignersIn}
 use Rattle.frame.proofs.Entries.{length-entries}
-use Rattle.report.specs.Whole.{WholeList, WholeReport}
+use Rattle.report.specs.Whole.{WholeList, WholeReport, partOf}
 
 -- ---- places
 
@@ -41,6 +43,14 @@ module _ {b : List ℕ} (h : WholeReport b) where
 
   pub report-signer : (i : ℕ) → i < signerCountIn b → SignersIn i b
   report-signer i known = record { known = known; within = h .within }
+
+-- ---- parts
+
+pub part-within : (b : List ℕ) (start len : ℕ) → start + len ≤ length b → partOf b start len ≡ part b start len
+part-within b start len h = rw (le-ltb (length b) start (omega arith), le-ltb (length b - start) len (omega arith))
+
+pub part-none : (b : List ℕ) → partOf b 0 0 ≡ []
+part-none b = part-within b 0 0 (omega arith)
 
 -- ---- members
 

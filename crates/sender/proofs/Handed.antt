@@ -2,9 +2,8 @@
 use mathlib.Core.Path.{_≡_, refl, sym, ap, _∙_}
 use mathlib.Core.Bool.{true, false}
 use mathlib.Core.List.{List, [], _∷_}
-use Prim.Native.Nat.{ℕ, suc, _+_, _*_, _-_, _≤_}
+use Prim.Native.Nat.{ℕ, suc, _+_, _*_, _≤_}
 use native.Mathlib.Omega.{arith}
-use borrow.Author.Tests.{le-ltb}
 use lib.ListN.{length, take, drop, length-drop}
 use lib.Seq.{length-take-le, take-take}
 use Rattle.config.specs.Limits.{members, keptSize}
@@ -21,6 +20,7 @@ use Rattle.frame.proofs.Readable.{length-monotone, final-fits}
 use Rattle.frame.proofs.Checked.{checked-final}
 use Rattle.report.specs.Newer.{newer}
 use Rattle.report.specs.Whole.{finalLength}
+use Rattle.report.proofs.Whole.{part-within, part-none}
 use Rattle.sender.specs.State.{slotIn, reportIn}
 use Rattle.sender.specs.Calls.{nothing, releasing, handedPart}
 use Rattle.sender.specs.History.{reportOf}
@@ -36,7 +36,7 @@ good-short n b h good =
 
 -- no part is an empty one
 pub part-nothing : (waiting : List ℕ) → handedPart nothing waiting ≡ []
-part-nothing waiting = rw (le-ltb (length waiting) 0 (omega arith), le-ltb (length waiting - 0) 0 (omega arith))
+part-nothing waiting = part-none waiting
 
 -- a body in range says a report
 pub report-whole : (n : ℕ) (b : List ℕ) → bodyAnswer n 6 b ≡ Done → reportOf b ≡ attestedIn b ∷ []
@@ -50,7 +50,7 @@ module _ (waiting : List ℕ) (slot : ℕ) (commit : Commit) where
   handed-front short room e =
       let len = finalLength (slotIn waiting slot) in
       let start = slot * keptSize in
-      let whole : handedPart (releasing waiting commit slot) waiting ≡ part waiting start len = rw (e, le-ltb (length waiting) start (omega arith), le-ltb (length waiting - start) len (omega arith)) in
+      let whole : handedPart (releasing waiting commit slot) waiting ≡ part waiting start len = rw e (part-within waiting start len (omega arith)) in
       whole ∙ sym (take-take len keptSize (drop start waiting) short)
 
   pub handed-says : finalLength (slotIn waiting slot) ≤ keptSize → suc slot * keptSize ≤ length waiting → newer (reportIn waiting slot .epoch) (reportIn waiting slot .round) (commit .epoch) (commit .round) ≡ true → attestedIn (handedPart (releasing waiting commit slot) waiting) ≡ reportIn waiting slot
