@@ -208,8 +208,34 @@ fn timer(bytes: &mut [u8], lengths: Lengths, said: &[u8]) -> bool
         1 => fires(bytes, lengths, said, Fired::Progress),
         2 => fires(bytes, lengths, said, Fired::Round),
         3 => fires(bytes, lengths, said, Fired::Grace),
-        _ => false,
+        _ => unnamed(bytes, lengths, said),
     }
+}
+
+// A timer that is none of the four changes nothing, so the buffers are lent as they lie.
+fn unnamed(bytes: &mut [u8], lengths: Lengths, said: &[u8]) -> bool
+    requires { ⌜ (memorySize ≤ length (now bytes)) × Within lengths × (timerSize ≤ length (now said)) ⌝ }
+{
+    let outcome = unarmed(&bytes[..], lengths, said);
+    came(bytes, b'T', outcome);
+    lines::end();
+    true
+}
+
+fn unarmed(bytes: &[u8], lengths: Lengths, said: &[u8]) -> Outcome
+    requires { ⌜ (memorySize ≤ length (now bytes)) × Within lengths × (timerSize ≤ length (now said)) ⌝ }
+{
+    let outbox = memory::OUTBOX_AT + lengths.outbox;
+    let kept = memory::KEPT_AT + lengths.kept;
+    let signatures = memory::SIGNATURES_AT + lengths.signatures;
+    let node = image::node_at(bytes, memory::NODE_AT);
+    node.unarmed(
+        wire::get_u64(said, 1),
+        &bytes[memory::OUTBOX_AT..outbox],
+        wire::get_u64(said, 9) as usize,
+        &bytes[memory::KEPT_AT..kept],
+        &bytes[memory::SIGNATURES_AT..signatures],
+    )
 }
 
 fn fires(bytes: &mut [u8], lengths: Lengths, said: &[u8], fired: Fired) -> bool

@@ -1,5 +1,4 @@
 -- Each row computes; the epoch program's run is computed a line at a time, in its own crate.
-use mathlib.Core.Path.{refl}
 use Rattle.config.specs.Codes.{numberOf}
 use Rattle.price.specs.Deviation.{deviates}
 use Rattle.quorum.specs.First.{firstAt}

@@ -70,7 +70,7 @@ pub fn replay(script: &[u8]) -> String {
 /// The longest record of a delivery, a transmission or a submission.
 const LONGEST: usize = 65536;
 
-/// Whether the length is one that the letter has, and a timer's number that of a timer.
+/// Whether the length is one that the letter has.
 fn length_good(letter: u8, bytes: &[u8]) -> bool {
     let length = bytes.len();
     match letter {
@@ -85,7 +85,7 @@ fn length_good(letter: u8, bytes: &[u8]) -> bool {
         b'R' => length == Config::IMAGE + 8,
         b'S' => length == 16,
         b'D' => (54..=LONGEST).contains(&length),
-        b'T' => length == 17 && bytes[0] <= 3,
+        b'T' => length == 17,
         b'X' => (30..=LONGEST).contains(&length) && length >= 30 + bytes[29] as usize,
         b'O' => length == 29,
         b'm' => length == Terms::IMAGE,

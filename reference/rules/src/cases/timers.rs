@@ -342,6 +342,23 @@ fn timers(builder: &mut Builder, rng: &mut Rng) {
             must(builder.timer(timer, TWO_53 + 1, 0), Code::Range, "9 before 1");
         }
     }
+    // A number that names no timer is a timer that is never armed.
+    for timer in [4, 255] {
+        for base in [&follower, &leader] {
+            builder.lent(&signed);
+            builder.node(base);
+            must(builder.timer(timer, 5, 0), Code::Ignored, "1");
+            must(builder.timer(timer, TWO_53, 0), Code::Ignored, "1");
+            must(builder.timer(timer, TWO_53 + 1, 0), Code::Range, "9 before 1");
+            must(builder.timer(timer, 5, 1), Code::Room, "3 before 1");
+            must(builder.timer(timer, TWO_53 + 1, 1), Code::Room, "3 before 9");
+            builder.node(&edited(base, |x| x.phase = 9));
+            must(builder.timer(timer, 5, 0), Code::State, "2 before 1");
+            must(builder.timer(timer, 5, 1), Code::State, "2 before 3");
+            builder.node(&edited(base, |x| x.started = 0));
+            must(builder.timer(timer, 5, 0), Code::Ignored, "before Start");
+        }
+    }
     // Buffers.
     builder.node(&leader);
     for at in [1, 2399, 2400, 2401].into_iter().chain(HUGE) {
