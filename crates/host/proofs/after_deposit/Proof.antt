@@ -4,7 +4,7 @@ use Rattle.host.proofs.after_deposit.Statement.{statement}
 use Rattle.host.proofs.after_deposit.Tie as tie
 
 returns : tie.Need-returns
-returns c = cc
+returns c = rw (c .paying .ensures)
 
 pub after-deposit-spec : {M : Type 1} → statement M
 after-deposit-spec = tie.close (tie.spec (λ c κs. search needs) returns)

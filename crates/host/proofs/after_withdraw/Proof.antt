@@ -4,7 +4,7 @@ use Rattle.host.proofs.after_withdraw.Statement.{statement}
 use Rattle.host.proofs.after_withdraw.Tie as tie
 
 returns : tie.Need-returns
-returns c = cc
+returns c = rw (c .paying .ensures)
 
 pub after-withdraw-spec : {M : Type 1} → statement M
 after-withdraw-spec = tie.close (tie.spec (λ c κs. search needs) returns)
