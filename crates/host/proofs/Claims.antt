@@ -1,12 +1,13 @@
 -- A refusal changes nothing: what node, sender and contract claim of their calls by value, carried to the lent structs; and an instance that computes.
 use mathlib.Core.Path.{_≡_, refl, ap}
-use mathlib.Core.Bool.{Bool, true, false, cond}
+use mathlib.Core.Bool.{false}
 use mathlib.Core.List.{List}
 use Prim.Native.Nat.{ℕ}
 use lib.Dec.{eqb}
 use Rattle.node.specs.declared.Fired.{Fired}
 use Rattle.node.specs.declared.Fired.the-variants.{Resend, Progress, Round, Grace}
 use Rattle.node.specs.Event.{Event, whole, delivery, starts, delivers, fires}
+use Rattle.leader.proofs.Cases.{either}
 use Rattle.node.specs.Calls as node
 use Rattle.node.proofs.Steps as node-laws
 use Rattle.sender.proofs.Claims as sender-laws
@@ -39,20 +40,15 @@ unarmed-keeps : (l : LentNode) (time : ℕ) (outbox : List ℕ) (at : ℕ) (kept
 unarmed-keeps l time outbox at kept signatures h =
     record { node = refl; commit = refl; observation = refl; outbox-same = refl; kept-same = refl; signatures-same = refl }
 
--- what holds of both ways holds of the one taken
-either : (P : node.Out → Type 0) (b : Bool) (x y : node.Out) → P x → P y → P (cond b x y)
-either P true x y p q = p
-either P false x y p q = q
-
 timer-keeps : (l : LentNode) (number time : ℕ) (outbox : List ℕ) (at : ℕ) (kept signatures : List ℕ) → Keeps l outbox kept signatures (timerCall (l .node) number time outbox at kept signatures)
 unfolding timerCall
 timer-keeps l number time outbox at kept signatures =
     let P = Keeps l outbox kept signatures in
     let fired : (t : Fired) → Keeps l outbox kept signatures (node.callOf (l .node) (fires t time) outbox at kept signatures) = λ t. event-keeps l (fires t time) outbox at kept signatures in
-    either P (eqb number 0) _ _ (fired Resend)
-    (either P (eqb number 1) _ _ (fired Progress)
-    (either P (eqb number 2) _ _ (fired Round)
-    (either P (eqb number 3) _ _ (fired Grace) (unarmed-keeps l time outbox at kept signatures))))
+    either P (eqb number 0) _ _ (λ e. fired Resend)
+    (λ e. either P (eqb number 1) _ _ (λ e. fired Progress)
+    (λ e. either P (eqb number 2) _ _ (λ e. fired Round)
+    (λ e. either P (eqb number 3) _ _ (λ e. fired Grace) (λ e. unarmed-keeps l time outbox at kept signatures))))
 
 node-refusals : (l : LentNode) (outbox : List ℕ) (at : ℕ) (kept signatures : List ℕ) → NodeRefusals l outbox at kept signatures
 unfolding restoreAt startAt deliverAt timerAt
