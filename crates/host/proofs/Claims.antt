@@ -54,7 +54,7 @@ node-refusals : (l : LentNode) (outbox : List ℕ) (at : ℕ) (kept signatures :
 unfolding restoreAt startAt deliverAt timerAt
 node-refusals l outbox at kept signatures =
     record {
-      restore = λ epoch highest h. rw h;
+      restore = λ epoch highest h. (rw h, refl, refl);
       start = λ time. event-keeps l (starts time) outbox at kept signatures;
       deliver = λ link time bits frame. event-keeps l (delivers (delivery link time (l .observation) (l .commit) bits frame)) outbox at kept signatures;
       timer = λ number time. timer-keeps l number time outbox at kept signatures;
@@ -67,9 +67,9 @@ unfolding senderFreshAt transmitAt timeoutAt
 sender-refusals l slots =
     let kept = sender-laws.refusal-changes-nothing (record { sender = l .sender; slots = slots }) in
     record {
-      fresh = λ h. rw h;
-      transmit = λ body time permutation h. let u = kept .transmit body time (l .commit) permutation h in (u .0, u .1);
-      timeout = λ time h. kept .timeout time (l .commit) h .0;
+      fresh = λ h. (rw h, refl);
+      transmit = λ body time permutation h. let u = kept .transmit body time (l .commit) permutation h in (u .0, refl, u .1);
+      timeout = λ time h. (kept .timeout time (l .commit) h .0, refl);
     }
 
 -- ---- a contract

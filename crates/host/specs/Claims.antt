@@ -25,15 +25,15 @@ pub record NodeStays (l : LentNode) (outbox kept signatures : List ℕ) (o : Len
   pub signatures-same : o .signatures ≡ signatures
 
 pub record NodeRefusals (l : LentNode) (outbox : List ℕ) (at : ℕ) (kept signatures : List ℕ) : Type 0 where
-  pub restore : (epoch highest : ℕ) → done (restoreAt l epoch highest .outcome .answer) ≡ false → restoreAt l epoch highest .node ≡ l .node
+  pub restore : (epoch highest : ℕ) → let m = restoreAt l epoch highest in done (m .outcome .answer) ≡ false → (m .node ≡ l .node) × (m .commit ≡ l .commit) × (m .observation ≡ l .observation)
   pub start : (time : ℕ) → let o = startAt l time outbox at kept signatures in done (o .lent .outcome .answer) ≡ false → NodeStays l outbox kept signatures o
   pub deliver : (link time bits : ℕ) (frame : List ℕ) → let o = deliverAt l link time bits frame outbox at kept signatures in done (o .lent .outcome .answer) ≡ false → NodeStays l outbox kept signatures o
   pub timer : (number time : ℕ) → let o = timerAt l number time outbox at kept signatures in done (o .lent .outcome .answer) ≡ false → NodeStays l outbox kept signatures o
 
 pub record SenderRefusals (l : LentSender) (slots : List ℕ) : Type 0 where
-  pub fresh : done (senderFreshAt l .outcome .answer) ≡ false → senderFreshAt l .sender ≡ l .sender
-  pub transmit : (body : List ℕ) (time : ℕ) (permutation : List ℕ) → let o = transmitAt l body time permutation slots in done (o .lent .outcome .answer) ≡ false → (o .lent .sender ≡ l .sender) × (o .slots ≡ slots)
-  pub timeout : (time : ℕ) → done (timeoutAt l time slots .outcome .answer) ≡ false → timeoutAt l time slots .sender ≡ l .sender
+  pub fresh : done (senderFreshAt l .outcome .answer) ≡ false → (senderFreshAt l .sender ≡ l .sender) × (senderFreshAt l .commit ≡ l .commit)
+  pub transmit : (body : List ℕ) (time : ℕ) (permutation : List ℕ) → let o = transmitAt l body time permutation slots in done (o .lent .outcome .answer) ≡ false → (o .lent .sender ≡ l .sender) × (o .lent .commit ≡ l .commit) × (o .slots ≡ slots)
+  pub timeout : (time : ℕ) → let o = timeoutAt l time slots in done (o .outcome .answer) ≡ false → (o .sender ≡ l .sender) × (o .commit ≡ l .commit)
 
 pub record ContractRefusals (l : LentContract) : Type 0 where
   pub fresh : done (contractFreshAt l .outcome .answer) ≡ false → contractFreshAt l .contract ≡ l .contract
