@@ -165,7 +165,7 @@ static void clear_node(struct wederburh_lent_node *l) {
     GAP(T, node.config.schedule, offsetof(T, node.pace));
     GAP(T, node.pace.resend, offsetof(T, node.follower));
     GAP(T, node.follower.marks, offsetof(T, node.leader));
-    GAP(T, node.leader.gracing, offsetof(T, commit));
+    GAP(T, node.leader.t_grace, offsetof(T, commit));
     GAP(T, commit.round, offsetof(T, observation));
     GAP(T, outcome.answer, sizeof(T));
 }

@@ -19,7 +19,7 @@ static void open_links(struct links *links, const struct network *network) {
 bool contract_open(struct contract *contract, const struct network *network) {
     open_links(&contract->links, network);
     contract->lent.contract.terms = (struct wederburh_terms){
-        .observing = OBSERVATION_FEE, .sending = SENDING_FEE, .n = network->options.n, .f = network->options.f};
+        .observation_fee = OBSERVATION_FEE, .sending_fee = SENDING_FEE, .n = network->options.n, .f = network->options.f};
     return wederburh_contract_fresh(&contract->lent) == WEDERBURH_DONE &&
            wederburh_contract_deposit(&contract->lent, DEPOSIT) == WEDERBURH_DONE;
 }

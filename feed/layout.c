@@ -26,7 +26,7 @@ SIZE(leader, 320);
 AT(leader, observed, 248);
 AT(leader, reported, 279);
 AT(leader, phase, 310);
-AT(leader, gracing, 313);
+AT(leader, t_grace, 313);
 
 SIZE(node, 544);
 AT(node, pace, 48);

@@ -141,8 +141,8 @@ struct wederburh_leader {
     uint8_t reported[WEDERBURH_MEMBERS]; /* 279: whose REPORT was taken */
     uint8_t phase;                       /* 310: 0 no round yet, 1 observations, 2 grace, 3 reports, 4 finished */
     uint8_t round;                       /* 311 */
-    uint8_t rounding;                    /* 312: T_round is armed */
-    uint8_t gracing;                     /* 313: T_grace is armed */
+    uint8_t t_round;                     /* 312: T_round is armed */
+    uint8_t t_grace;                     /* 313: T_grace is armed */
 };
 
 /* 544 bytes */
@@ -260,10 +260,10 @@ struct wederburh_ledger {
 
 /* 24 bytes */
 struct wederburh_terms {
-    uint64_t observing; /*  0: what a listed member earns with a report */
-    uint64_t sending;   /*  8: what its transmitter earns besides */
-    uint8_t n;          /* 16 */
-    uint8_t f;          /* 17 */
+    uint64_t observation_fee; /*  0: what a listed member earns with a report */
+    uint64_t sending_fee;     /*  8: what its transmitter earns besides */
+    uint8_t n;                /* 16 */
+    uint8_t f;                /* 17 */
 };
 
 /* 560 bytes */

@@ -22,8 +22,8 @@ pub struct Ledger {
 #[repr(C)]
 #[derive(Clone, Copy)]
 pub struct Terms {
-    pub observing: u64,
-    pub sending: u64,
+    pub observation_fee: u64,
+    pub sending_fee: u64,
     pub n: u8,
     pub f: u8,
 }
@@ -65,7 +65,7 @@ impl Ledger {
 
 impl Terms {
     fn is_good(&self) -> bool {
-        good_members(self.n, self.f) && self.observing <= MOST_FEE && self.sending <= MOST_FEE
+        good_members(self.n, self.f) && self.observation_fee <= MOST_FEE && self.sending_fee <= MOST_FEE
     }
 }
 
@@ -81,12 +81,12 @@ impl Contract {
     fn publish(&mut self, report: &Attested, transmitter: u8, time: u64) -> Result<(), Code> {
         let terms = &self.terms;
         ensure(is_member(transmitter, terms.n), Code::Sender)?;
-        let cost = report.list.len() as u64 * terms.observing + terms.sending;
+        let cost = report.list.len() as u64 * terms.observation_fee + terms.sending_fee;
         self.ledger.fund = self.ledger.fund.checked_sub(cost).ok_or(Code::Funds)?;
         for member in report.list.members() {
-            self.ledger.account(member).balance += terms.observing;
+            self.ledger.account(member).balance += terms.observation_fee;
         }
-        self.ledger.account(transmitter).balance += terms.sending;
+        self.ledger.account(transmitter).balance += terms.sending_fee;
         let head = report.head;
         self.commit = Commit { median: report.list.median(), time, epoch: head.epoch, round: head.round };
         Ok(())

@@ -3,6 +3,7 @@ use mathlib.Core.Bool.{Bool, true, _&&_, Bool·beq}
 use mathlib.Core.List.{List, [], _∷_}
 use Prim.Native.Nat.{ℕ, _+_, _*_}
 use lib.Dec.{eqb, leb, ltb}
+use lib.IntN.{pos}
 use lib.ListN.{take}
 use Rattle.config.specs.Limits.{members, mostRounds, mostAlpha, lastTime, longestStage, mostStages}
 use Rattle.config.specs.declared.Config.{Config}
@@ -74,3 +75,7 @@ goodCommit c = paired (c .epoch) (c .round) && goodTime (c .time)
 -- "the last commit is epoch 0 round 0": nothing has been committed
 abbrev pub noCommit : Commit → Bool
 noCommit c = eqb (c .epoch) 0 && eqb (c .round) 0
+
+-- what a contract has before its first report, and what the epoch program delivers
+abbrev pub nothingCommitted : Commit
+nothingCommitted = record { median = pos 0; time = 0; epoch = 0; round = 0 }

@@ -187,13 +187,13 @@ pub exact-fees : ExactFees
 unfolding submittedOf accepting paying
 exact-fees c body transmitter time bits member long low high h =
     let listed = listedIn body in
-    let fee = c .terms .observing in
+    let fee = c .terms .«observation_fee» in
     let r = submit-ready c body transmitter time bits long h in
     let a = ready-listed c listed transmitter r in
     let stands = submit-passed c body transmitter time bits h .range .stands in
     let apart = list-fault-nothing (c .terms .f) (attestedIn body .list) (attested-fault-nothing (c .terms .f) bits (attestedIn body) stands .0) .2 in
     let all = earn-all-share (c .ledger) listed fee (c .terms .n) member (r .few) (r .good .deposits) (r .good .covers) (r .each) (omega arith) apart low in
-    let sent = earn-share (earningAll (c .ledger) listed fee) transmitter (c .terms .sending) member (omega arith) (omega arith) low (r .own .some) (omega arith) (a .fund) in
+    let sent = earn-share (earningAll (c .ledger) listed fee) transmitter (c .terms .«sending_fee») member (omega arith) (omega arith) low (r .own .some) (omega arith) (a .fund) in
     rw h (omega arith)
 
 -- ---- withdrawals
@@ -216,7 +216,7 @@ withdrawal-pays-the-balance c member long h =
 -- ---- instances: n = 4 and f = 1, with 2 for an observation and 3 for sending
 
 abbrev four : Terms
-four = record { observing = 2; sending = 3; n = 4; f = 1 }
+four = record { «observation_fee» = 2; «sending_fee» = 3; n = 4; f = 1 }
 
 -- members 1, 2 and 3 are listed, and 1 is the transmitter
 hundred-shared : let l = paying four (depositing emptyLedger 100) (1 ∷ 2 ∷ 3 ∷ []) 1 in (l .fund ≡ 91) × (accountAt (l .accounts) (placeOf 1) .balance ≡ 5) × (accountAt (l .accounts) (placeOf 3) .balance ≡ 2) × (accountAt (l .accounts) (placeOf 4) .balance ≡ 0)
@@ -260,9 +260,9 @@ abbrev before : Contract
 before = run (freshContract four) history
 
 -- three of four members may not be faulty
-none-made : (call : Call) → answered (freshContract (record { observing = 2; sending = 3; n = 4; f = 3 })) call ≡ answer.State
+none-made : (call : Call) → answered (freshContract (record { «observation_fee» = 2; «sending_fee» = 3; n = 4; f = 3 })) call ≡ answer.State
 unfolding goodTerms
-none-made call = refused-is-no-contract (record { observing = 2; sending = 3; n = 4; f = 3 }) call refl
+none-made call = refused-is-no-contract (record { «observation_fee» = 2; «sending_fee» = 3; n = 4; f = 3 }) call refl
 
 four-good : goodContract (freshContract four) ≡ true
 unfolding goodTerms

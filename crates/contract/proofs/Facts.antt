@@ -33,15 +33,15 @@ use Rattle.contract.specs.Calls.{cost, plainly, afterReport, afterOld, a
 
 pub record TermsGood (t : Terms) : Type 0 where
   pub members : Members (t .n) (t .f)
-  pub observing : t .observing ≤ mostFee
-  pub sending : t .sending ≤ mostFee
+  pub «observation_fee» : t .«observation_fee» ≤ mostFee
+  pub «sending_fee» : t .«sending_fee» ≤ mostFee
 
 pub terms-facts : (t : Terms) → goodTerms t ≡ true → TermsGood t
 unfolding goodTerms
 terms-facts t h =
-    let p = and-true (goodMembers (t .n) (t .f) && leb (t .observing) mostFee) (leb (t .sending) mostFee) h in
-    let q = and-true (goodMembers (t .n) (t .f)) (leb (t .observing) mostFee) (p .0) in
-    record { members = members-facts (t .n) (t .f) (q .0); observing = leb-true _ _ (q .1); sending = leb-true _ _ (p .1) }
+    let p = and-true (goodMembers (t .n) (t .f) && leb (t .«observation_fee») mostFee) (leb (t .«sending_fee») mostFee) h in
+    let q = and-true (goodMembers (t .n) (t .f)) (leb (t .«observation_fee») mostFee) (p .0) in
+    record { members = members-facts (t .n) (t .f) (q .0); «observation_fee» = leb-true _ _ (q .1); «sending_fee» = leb-true _ _ (p .1) }
 
 pub record ContractGood (c : Contract) : Type 0 where
   pub terms : goodTerms (c .terms) ≡ true

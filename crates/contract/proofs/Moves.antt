@@ -92,14 +92,14 @@ pub record Ready (c : Contract) (listed : List ℕ) (transmitter : ℕ) : Type 0
   pub few : c .terms .n ≤ length (c .ledger .accounts)
   pub each : (i : ℕ) → i < length listed → OneTo (c .terms .n) (getD listed i 0)
   pub own : Own (c .terms .n) transmitter
-  pub fund : length listed * c .terms .observing + c .terms .sending ≤ c .ledger .fund
+  pub fund : length listed * c .terms .«observation_fee» + c .terms .«sending_fee» ≤ c .ledger .fund
 
 pub submit-ready : (c : Contract) (body : List ℕ) (transmitter time bits : ℕ) → length (c .ledger .accounts) ≡ members → isDone (refusalOf c body transmitter time bits .answer) ≡ true → Ready c (listedIn body) transmitter
 submit-ready c body transmitter time bits long h =
     let p = submit-passed c body transmitter time bits h in
     let g = contract-facts c (p .good) in
     let t = terms-facts (c .terms) (g .terms) in
-    let fee = c .terms .observing in
+    let fee = c .terms .«observation_fee» in
     let same : length (listedIn body) * fee ≡ length (attestedIn body .list) * fee = ap (λ (k : ℕ). k * fee) (listed-count body ∙ sym (length-entries observationAt (shapeOf 6 .entry) (countIn body) (drop listPlace body))) in
     record {
       good = g;
@@ -111,14 +111,14 @@ submit-ready c body transmitter time bits long h =
 
 -- the ledger once the observation fees are paid, which the sending fee is paid out of
 pub record Listed (c : Contract) (listed : List ℕ) : Type 0 where
-  pub moved : Moved (c .ledger) (earningAll (c .ledger) listed (c .terms .observing)) 0 0
-  pub fund : c .terms .sending ≤ earningAll (c .ledger) listed (c .terms .observing) .fund
+  pub moved : Moved (c .ledger) (earningAll (c .ledger) listed (c .terms .«observation_fee»)) 0 0
+  pub fund : c .terms .«sending_fee» ≤ earningAll (c .ledger) listed (c .terms .«observation_fee») .fund
 
 pub ready-listed : (c : Contract) (listed : List ℕ) (transmitter : ℕ) → Ready c listed transmitter → Listed c listed
 ready-listed c listed transmitter r =
-    let left = fund-all (c .ledger) listed (c .terms .observing) (omega arith) in
+    let left = fund-all (c .ledger) listed (c .terms .«observation_fee») (omega arith) in
     record {
-      moved = moved-earn-all (c .ledger) listed (c .terms .observing) (c .terms .n) (r .few) (r .good .deposits) (r .good .covers) (r .each) (omega arith);
+      moved = moved-earn-all (c .ledger) listed (c .terms .«observation_fee») (c .terms .n) (r .few) (r .good .deposits) (r .good .covers) (r .each) (omega arith);
       fund = omega arith;
     }
 
@@ -127,4 +127,4 @@ unfolding paying
 submit-moved c body transmitter time bits long h =
     let r = submit-ready c body transmitter time bits long h in
     let a = ready-listed c (listedIn body) transmitter r in
-    moved-then (a .moved) (moved-earn (earningAll (c .ledger) (listedIn body) (c .terms .observing)) (placeOf transmitter) (c .terms .sending) (omega arith) (omega arith) (omega arith) (a .fund))
+    moved-then (a .moved) (moved-earn (earningAll (c .ledger) (listedIn body) (c .terms .«observation_fee»)) (placeOf transmitter) (c .terms .«sending_fee») (omega arith) (omega arith) (omega arith) (a .fund))

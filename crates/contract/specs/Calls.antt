@@ -37,7 +37,7 @@ madeOf t = record { answer = making (goodTerms t); contract = freshContract t }
 
 -- what a report of m observations costs: the observation fee for each listed member, and the sending fee
 abbrev pub cost : Terms → ℕ → ℕ
-cost t m = m * t .observing + t .sending
+cost t m = m * t .«observation_fee» + t .«sending_fee»
 
 abbrev pub plainly : Answer → Refusal
 plainly a = record { answer = a; fault = fault.Nothing }
@@ -73,7 +73,7 @@ earningAll l (member ∷ rest) amount = earningAll (earning l (placeOf member) a
 
 -- "Each listed member earns the observation fee, the transmitter the sending fee as well, out of the fund."
 unfoldable pub paying : Terms → Ledger → List ℕ → ℕ → Ledger
-paying t l listed transmitter = earning (earningAll l listed (t .observing)) (placeOf transmitter) (t .sending)
+paying t l listed transmitter = earning (earningAll l listed (t .«observation_fee»)) (placeOf transmitter) (t .«sending_fee»)
 
 -- "DONE sets epoch, round, median and time."
 unfoldable pub accepting : Contract → Attested → ℕ → ℕ → Contract

@@ -113,7 +113,7 @@ CommitOnlyRises = (c : Contract) (calls : List Call) → NotOlder c (run c calls
 -- Nobody is paid but listed members and the transmitter, and they the exact fees: at each place the balance grows by the observation fee where its
 -- member is listed, and by the sending fee where it is the transmitter's.
 abbrev pub earned : Contract → List ℕ → ℕ → ℕ → ℕ
-earned c listed transmitter member = cond (among member listed) (c .terms .observing) 0 + cond (eqb member transmitter) (c .terms .sending) 0
+earned c listed transmitter member = cond (among member listed) (c .terms .«observation_fee») 0 + cond (eqb member transmitter) (c .terms .«sending_fee») 0
 
 abbrev pub ExactFees : Type 0
 ExactFees =

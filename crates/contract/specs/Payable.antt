@@ -15,7 +15,7 @@ use Rattle.contract.specs.Calls.{cost}
 pub record CoversAll (t : Terms) (l : Ledger) (body : List ℕ) : Type 0 where
   pub few : t .n ≤ members
   pub body-good : bodyAnswer (t .n) 6 body ≡ Done
-  pub observing : countIn body * t .observing ≤ l .fund
+  pub «observation_fee» : countIn body * t .«observation_fee» ≤ l .fund
 
 -- and the sending fee, for a transmitter that is a member
 pub record Covers (t : Terms) (l : Ledger) (transmitter : ℕ) (body : List ℕ) : Type 0 where

@@ -2,26 +2,20 @@
 use mathlib.Core.Bool.{Bool, _&&_}
 use Prim.Native.Nat.{ℕ, _-_}
 use lib.Dec.{leb}
-use lib.IntN.{pos}
 use Rattle.config.specs.Limits.{mostFee, mostDeposits}
-use Rattle.config.specs.Bounds.{goodMembers, goodCommit}
-use Rattle.config.specs.declared.Commit.{Commit}
+use Rattle.config.specs.Bounds.{goodMembers, goodCommit, nothingCommitted}
 use Rattle.ledger.specs.Ledger.{covered, emptyLedger}
 use Rattle.contract.specs.declared.Terms.{Terms}
 use Rattle.contract.specs.declared.Contract.{Contract}
 
 -- "Members n: 1 to 31 .. Faulty f: 3f < n.", "Fees at most 1,000,000,000 each."
 unfoldable pub goodTerms : Terms → Bool
-goodTerms t = goodMembers (t .n) (t .f) && leb (t .observing) mostFee && leb (t .sending) mostFee
+goodTerms t = goodMembers (t .n) (t .f) && leb (t .«observation_fee») mostFee && leb (t .«sending_fee») mostFee
 
 -- STATE: "a field out of its range, the configuration's included, .. fund plus balances above deposits"; "All deposits ever made: at most 2^53
 -- together."
 unfoldable pub goodContract : Contract → Bool
 goodContract c = goodTerms (c .terms) && goodCommit (c .commit) && leb (c .ledger .deposits) mostDeposits && covered (c .ledger)
-
--- nothing committed yet
-abbrev pub nothingCommitted : Commit
-nothingCommitted = record { median = pos 0; time = 0; epoch = 0; round = 0 }
 
 -- a contract under these terms that nobody has paid into
 abbrev pub freshContract : Terms → Contract

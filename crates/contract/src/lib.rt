@@ -19,9 +19,9 @@ ghost use Rattle.contract.specs.Calls.{madeOf, cost, plainly, afterRepor
 #[repr(C)]
 pub struct Terms {
     // what each listed member earns with a report
-    pub observing: u64,
+    pub observation_fee: u64,
     // what the transmitter earns with it, besides
-    pub sending: u64,
+    pub sending_fee: u64,
     // how many members there are, and how many of them may be faulty
     pub n: u8,
     pub f: u8,
@@ -73,8 +73,8 @@ impl Terms {
         ensures { λ r. ⌜ r ≡ goodTerms self ⌝ }
     {
         config::good_members(self.n, self.f)
-            & (self.observing <= Config::MOST_FEE)
-            & (self.sending <= Config::MOST_FEE)
+            & (self.observation_fee <= Config::MOST_FEE)
+            & (self.sending_fee <= Config::MOST_FEE)
     }
 
     // What a report of m observations costs.
@@ -82,7 +82,7 @@ impl Terms {
         requires { ⌜ (goodTerms self ≡ true) × (m ≤ 255) ⌝ }
         ensures { λ r. ⌜ r ≡ cost self m ⌝ }
     {
-        m as u64 * self.observing + self.sending
+        m as u64 * self.observation_fee + self.sending_fee
     }
 }
 
@@ -311,13 +311,13 @@ fn paid(terms: Terms, ledger: Ledger, body: &[u8], transmitter: u8) -> Ledger
     ensures { λ r. ⌜ r ≡ paying terms ledger (membersOf (attestedIn (now (body .entry)) .list)) transmitter ⌝ }
 {
     let all = paid_all(terms, ledger, body);
-    all.earn(place_of(transmitter), terms.sending)
+    all.earn(place_of(transmitter), terms.sending_fee)
 }
 
 // The ledger after each listed member has earned the observation fee. The turns alter one local: `Ledger::earn` would copy the ledger for each member.
 fn paid_all(terms: Terms, ledger: Ledger, body: &[u8]) -> Ledger
     requires { ⌜ CoversAll terms ledger (now body) ⌝ }
-    ensures { λ r. ⌜ r ≡ earningAll ledger (membersOf (attestedIn (now (body .entry)) .list)) (terms .observing) ⌝ }
+    ensures { λ r. ⌜ r ≡ earningAll ledger (membersOf (attestedIn (now (body .entry)) .list)) (terms .«observation_fee») ⌝ }
 {
     let m = frame::count_of(body);
     let stride = frame::stride(6);
@@ -325,9 +325,9 @@ fn paid_all(terms: Terms, ledger: Ledger, body: &[u8]) -> Ledger
     let mut i: usize = 0;
     while i < m {
         let place = place_of(frame::member_at(body, stride, i));
-        l.fund = l.fund - terms.observing;
+        l.fund = l.fund - terms.observation_fee;
         let a = l.accounts[place];
-        let b = ledger::with_credit(a, terms.observing);
+        let b = ledger::with_credit(a, terms.observation_fee);
         l.accounts[place] = b;
         i += 1;
     }

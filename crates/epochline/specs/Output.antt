@@ -6,10 +6,10 @@ use lib.Dec.{eqb}
 use lib.IntN.{pos}
 use lib.ListN.{replicate}
 use Rattle.config.specs.Limits.{frameSize, keptSize, signaturesSize}
+use Rattle.config.specs.Bounds.{nothingCommitted}
 use Rattle.config.specs.Codes.{numberOf, isDone}
 use Rattle.config.specs.Leader.{leaderOf}
 use Rattle.config.specs.declared.Answer.{Answer}
-use Rattle.config.specs.declared.Commit.{Commit}
 use Rattle.config.specs.declared.Config.{Config}
 use Rattle.frame.specs.Message.{newEpoch}
 use Rattle.frame.specs.Encode.{frameBytes}
@@ -36,14 +36,11 @@ running n outbox kept signatures = record { whole-now = whole n kept signatures;
 abbrev pub beginning : Node → Running
 beginning n = running n (replicate frameSize 0) (replicate keptSize 0) (replicate signaturesSize 0)
 
-abbrev pub noCommit : Commit
-noCommit = record { median = pos 0; time = 0; epoch = 0; round = 0 }
-
 -- the event of a command: the time is 0, nothing is committed, no bit is set, and a frame comes over its sender's link. A line of another
 -- shape has none, and is not asked for one: it ends the run
 abbrev pub eventOf : Config → Command → Event
 eventOf c Start = starts 0
-eventOf c (Heard j x) = delivers (delivery j 0 (pos 0) noCommit 0 (frameBytes (c .n) (c .number) j (newEpoch x)))
+eventOf c (Heard j x) = delivers (delivery j 0 (pos 0) nothingCommitted 0 (frameBytes (c .n) (c .number) j (newEpoch x)))
 eventOf c Progress = fires fired.Progress 0
 eventOf c Other = starts 0
 

@@ -28,14 +28,14 @@ use Rattle.follower.specs.declared.Follower.{Follower}
 use Rattle.follower.specs.declared.Followed.{Followed}
 use Rattle.follower.specs.declared.Reply.{Reply}
 use Rattle.follower.specs.declared.Reply.the-variants as reply
-use Rattle.follower.specs.declared.Verdict.the-variants.{Ignored}
+use Rattle.follower.specs.declared.Finding.the-variants.{Ignored}
 use Rattle.follower.specs.State.{isSet, goodFollower, inRound}
-use Rattle.follower.specs.Takes.{faultOf, verdictOf}
+use Rattle.follower.specs.Takes.{faultOf, findingOf}
 use Rattle.follower.specs.Rules.{nowKept, nowMarked, asked, received, echoed, followOf, keptOf}
 use Rattle.follower.specs.Claims.{KeptAndChecked, KeptWasChecked, ListWasChecked, ReportedWasChecked, CountedOnce, EchoCountsOnce, MarksStay, KeptNothingElse, GoodStaysGood}
 use Rattle.follower.proofs.State.{good-parts, good-round, good-signed, good-completed, good-kept, good-marked}
 use Rattle.follower.proofs.Rules.{requested-each, asked-each, echoed-each, echoed-marks, echoed-reply, mark-stays}
-use Rattle.follower.proofs.Verdicts.{verdict-taken, taken-unmarked}
+use Rattle.follower.proofs.Findings.{finding-taken, taken-unmarked}
 
 -- ---- what is sent was checked
 
@@ -70,11 +70,11 @@ sent c s j bits time commit kept (report e r xs g) h = tt
 
 pub kept-was-checked : KeptWasChecked
 kept-was-checked c s epoch leader j bits time commit kept m t e =
-    rw e at (sent c s j bits time commit kept m (verdict-taken s (c .f) epoch leader j bits m t .1))
+    rw e at (sent c s j bits time commit kept m (finding-taken s (c .f) epoch leader j bits m t .1))
 
 pub reported-was-checked : ReportedWasChecked
 reported-was-checked c s epoch leader j bits time commit m t e =
-    rw e at (sent c s j bits time commit [] m (verdict-taken s (c .f) epoch leader j bits m t .1))
+    rw e at (sent c s j bits time commit [] m (finding-taken s (c .f) epoch leader j bits m t .1))
 
 -- ---- echoes count once
 
@@ -168,11 +168,11 @@ abbrev attested : Attested
 attested = record { epoch = 7; round = 1; list = map (λ (x : Signed). x .said) three; signers = signer 2 ∷ signer 4 ∷ [] }
 
 final-kept : KeptAndChecked begun 1 3 [] (final attested)
-unfolding verdictOf numberOf attestedFault listFault notFalling signersFault repeatFault bitsFault firstAt received
+unfolding findingOf numberOf attestedFault listFault notFalling signersFault repeatFault bitsFault firstAt received
 final-kept = kept-was-checked four begun 7 4 4 3 0 none [] (final attested) refl refl
 
 three-reported : ListWasChecked 1 7 (reportReq 7 1 three)
-unfolding verdictOf numberOf listFault notFalling bitsFault firstAt asked shouldReport
+unfolding findingOf numberOf listFault notFalling bitsFault firstAt asked shouldReport
 three-reported = reported-was-checked four begun 7 4 4 7 0 none (reportReq 7 1 three) refl refl
 
 -- after member 2's FINAL-ECHO, and after member 3's
@@ -183,11 +183,11 @@ abbrev echo-of-3 : Followed
 echo-of-3 = followOf four (echo-of-2 .follower) 3 0 none (finalEcho attested)
 
 echo-of-2-once : CountedOnce four begun 2 0 none attested
-unfolding verdictOf numberOf attestedFault listFault notFalling signersFault repeatFault bitsFault firstAt
+unfolding findingOf numberOf attestedFault listFault notFalling signersFault repeatFault bitsFault firstAt
 echo-of-2-once = echo-counts-once four begun 7 4 2 3 0 none attested (omega arith) (omega arith) (omega arith) refl
 
-echo-of-2-again : verdictOf (echo-of-2 .follower) 1 7 4 2 3 (finalEcho attested) ≡ Ignored
-unfolding verdictOf echoed
+echo-of-2-again : findingOf (echo-of-2 .follower) 1 7 4 2 3 (finalEcho attested) ≡ Ignored
+unfolding findingOf echoed
 echo-of-2-again = refl
 
 -- the second of two echoes, which is more than f, hands the report out and completes the round
@@ -201,7 +201,7 @@ unfolding echoed
 two-marks = marks-stay four (echo-of-2 .follower) 3 0 1 none (finalEcho attested) refl refl
 
 first-kept : (kept : List ℕ) → keptOf (echo-of-2 .follower) kept (finalEcho attested) ≡ kept
-unfolding verdictOf numberOf attestedFault listFault notFalling signersFault repeatFault bitsFault firstAt echoed
+unfolding findingOf numberOf attestedFault listFault notFalling signersFault repeatFault bitsFault firstAt echoed
 first-kept kept =
     kept-nothing-else four (echo-of-2 .follower) 7 4 3 3 0 none kept (finalEcho attested) refl (λ e. let z : _≡_ {A = ℕ} 0 1 = cc in omega arith)
 

@@ -15,9 +15,9 @@ use Rattle.report.specs.Stands.{listFault, attestedFault}
 use Rattle.report.specs.Kept.{keeping, cleared}
 use Rattle.follower.specs.declared.Follower.{Follower}
 use Rattle.follower.specs.declared.Reply.the-variants as reply
-use Rattle.follower.specs.declared.Verdict.the-variants.{Taken}
+use Rattle.follower.specs.declared.Finding.the-variants.{Taken}
 use Rattle.follower.specs.State.{goodFollower}
-use Rattle.follower.specs.Takes.{verdictOf}
+use Rattle.follower.specs.Takes.{findingOf}
 use Rattle.follower.specs.Rules.{markedBy, requests, followOf, keptOf}
 
 -- the report that a message carries, where it carries one
@@ -40,7 +40,7 @@ pub record KeptAndChecked (s : Follower) (f bits : ℕ) (kept : List ℕ) (m : M
 
 abbrev pub KeptWasChecked : Type 0
 KeptWasChecked =
-    (c : Config) (s : Follower) (epoch leader j bits time : ℕ) (commit : Commit) (kept : List ℕ) (m : Message) → verdictOf s (c .f) epoch leader j bits m ≡ Taken → followOf c s j time commit m .reply ≡ reply.Echo → KeptAndChecked s (c .f) bits kept m
+    (c : Config) (s : Follower) (epoch leader j bits time : ℕ) (commit : Commit) (kept : List ℕ) (m : Message) → findingOf s (c .f) epoch leader j bits m ≡ Taken → followOf c s j time commit m .reply ≡ reply.Echo → KeptAndChecked s (c .f) bits kept m
 
 -- the list that a message asks to be reported, with signatures
 abbrev pub Asks : Message → List Signed → Type 0
@@ -61,16 +61,16 @@ pub record ListWasChecked (f bits : ℕ) (m : Message) : Type 0 where
 
 abbrev pub ReportedWasChecked : Type 0
 ReportedWasChecked =
-    (c : Config) (s : Follower) (epoch leader j bits time : ℕ) (commit : Commit) (m : Message) → verdictOf s (c .f) epoch leader j bits m ≡ Taken → followOf c s j time commit m .reply ≡ reply.Report → ListWasChecked (c .f) bits m
+    (c : Config) (s : Follower) (epoch leader j bits time : ℕ) (commit : Commit) (m : Message) → findingOf s (c .f) epoch leader j bits m ≡ Taken → followOf c s j time commit m .reply ≡ reply.Report → ListWasChecked (c .f) bits m
 
 -- A FINAL-ECHO that is taken from one of the n members counts for one, and after it no other is taken from that member, whatever it says.
 pub record CountedOnce (c : Config) (s : Follower) (j time : ℕ) (commit : Commit) (a : Attested) : Type 0 where
   pub one : markedBy (c .n) (followOf c s j time commit (finalEcho a) .follower) ≡ suc (markedBy (c .n) s)
-  pub never-again : (epoch leader bits : ℕ) (b : Attested) → verdictOf (followOf c s j time commit (finalEcho a) .follower) (c .f) epoch leader j bits (finalEcho b) ≡ Taken → ⊥
+  pub never-again : (epoch leader bits : ℕ) (b : Attested) → findingOf (followOf c s j time commit (finalEcho a) .follower) (c .f) epoch leader j bits (finalEcho b) ≡ Taken → ⊥
 
 abbrev pub EchoCountsOnce : Type 0
 EchoCountsOnce =
-    (c : Config) (s : Follower) (epoch leader j bits time : ℕ) (commit : Commit) (a : Attested) → 1 ≤ j → j ≤ c .n → c .n ≤ length (s .marks) → verdictOf s (c .f) epoch leader j bits (finalEcho a) ≡ Taken → CountedOnce c s j time commit a
+    (c : Config) (s : Follower) (epoch leader j bits time : ℕ) (commit : Commit) (a : Attested) → 1 ≤ j → j ≤ c .n → c .n ≤ length (s .marks) → findingOf s (c .f) epoch leader j bits (finalEcho a) ≡ Taken → CountedOnce c s j time commit a
 
 -- And a mark stays until the round changes: no message but an OBSERVE-REQ takes one away.
 abbrev pub MarksStay : Type 0
@@ -80,7 +80,7 @@ MarksStay =
 -- A taken message that is not echoed leaves the kept buffer as it was, or clears it.
 abbrev pub KeptNothingElse : Type 0
 KeptNothingElse =
-    (c : Config) (s : Follower) (epoch leader j bits time : ℕ) (commit : Commit) (kept : List ℕ) (m : Message) → verdictOf s (c .f) epoch leader j bits m ≡ Taken → (followOf c s j time commit m .reply ≡ reply.Echo → ⊥) → keptOf s kept m ≡ cond (requests m) (cleared kept) kept
+    (c : Config) (s : Follower) (epoch leader j bits time : ℕ) (commit : Commit) (kept : List ℕ) (m : Message) → findingOf s (c .f) epoch leader j bits m ≡ Taken → (followOf c s j time commit m .reply ≡ reply.Echo → ⊥) → keptOf s kept m ≡ cond (requests m) (cleared kept) kept
 
 -- Every rule keeps a state in range.
 abbrev pub GoodStaysGood : Type 0

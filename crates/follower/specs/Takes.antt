@@ -14,8 +14,8 @@ use Rattle.report.specs.declared.Fault.the-variants.{Nothing}
 use Rattle.report.specs.Faults.{codeOf, firstFault}
 use Rattle.report.specs.Stands.{listFault, bitsFault, attestedFault}
 use Rattle.follower.specs.declared.Follower.{Follower}
-use Rattle.follower.specs.declared.Verdict.{Verdict}
-use Rattle.follower.specs.declared.Verdict.the-variants.{Ignored, Wrong, Taken}
+use Rattle.follower.specs.declared.Finding.{Finding}
+use Rattle.follower.specs.declared.Finding.the-variants.{Ignored, Wrong, Taken}
 use Rattle.follower.specs.State.{isSet}
 
 -- how one round stands to another: 0 below it, 1 the same, 2 above it
@@ -52,11 +52,11 @@ faultOf f bits (observe e r v g) = Nothing
 faultOf f bits (report e r xs g) = Nothing
 
 -- IGNORED: "a well-formed message whose rule's conditions fail"; PROOF: "conditions hold, check fails"
-unfoldable pub verdictOf : Follower → ℕ → ℕ → ℕ → ℕ → ℕ → Message → Verdict
-verdictOf s f epoch leader j bits m =
+unfoldable pub findingOf : Follower → ℕ → ℕ → ℕ → ℕ → ℕ → Message → Finding
+findingOf s f epoch leader j bits m =
     cond (takes s epoch leader j m) (cond (isDone (codeOf (faultOf f bits m))) Taken (Wrong (faultOf f bits m))) Ignored
 
-abbrev pub answerOf : Verdict → Answer
+abbrev pub answerOf : Finding → Answer
 answerOf Ignored = answer.Ignored
 answerOf (Wrong x) = answer.Proof
 answerOf Taken = answer.Done

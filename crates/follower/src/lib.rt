@@ -16,7 +16,7 @@ ghost use Rattle.frame.specs.Check.{bodyAnswer};
 ghost use Rattle.report.specs.Whole.{WholeReport};
 ghost use Rattle.report.specs.Kept.{keeping};
 ghost use Rattle.follower.specs.State.{isSet, goodFollower, inRound};
-ghost use Rattle.follower.specs.Takes.{relationOf, current, takes, faultOf, verdictOf, answerOf};
+ghost use Rattle.follower.specs.Takes.{relationOf, current, takes, faultOf, findingOf, answerOf};
 ghost use Rattle.follower.specs.Rules.{stays, requested, halts, asked, received, echoed, followOf, keptOf};
 ghost use Rattle.follower.specs.Handed.{handedOf, handedPart};
 
@@ -38,7 +38,7 @@ pub struct Follower {
 }
 
 // What a follower says of a message.
-pub enum Verdict {
+pub enum Finding {
     // its rule's conditions do not hold
     Ignored,
     // they hold, and this is wrong with it
@@ -81,15 +81,15 @@ pub struct Handed {
     pub len: usize,
 }
 
-impl Verdict {
-    // The answer that a verdict is given.
+impl Finding {
+    // The answer that a finding is given.
     pub fn answer(self) -> Answer
         ensures { λ r. ⌜ r ≡ answerOf self ⌝ }
     {
         match self {
-            Verdict::Ignored => Answer::Ignored,
-            Verdict::Wrong(_) => Answer::Proof,
-            Verdict::Taken => Answer::Done,
+            Finding::Ignored => Answer::Ignored,
+            Finding::Wrong(_) => Answer::Proof,
+            Finding::Taken => Answer::Done,
         }
     }
 }
@@ -122,7 +122,7 @@ impl Follower {
     }
 
     // What is said of a message that came from member j, in an epoch led by `leader`.
-    pub fn verdict(
+    pub fn finding(
         self,
         config: Config,
         epoch: u32,
@@ -131,18 +131,18 @@ impl Follower {
         kind: u8,
         body: &[u8],
         bits: u64,
-    ) -> Verdict
+    ) -> Finding
         requires { ⌜ (1 ≤ kind) × (kind ≤ 7) × (bodyAnswer (config .n) kind (now body) ≡ Done) × (1 ≤ j) × (j ≤ members) ⌝ }
-        ensures { λ r. ⌜ r ≡ verdictOf self (config .f) epoch leader j bits (messageOf kind (now (body .entry))) ⌝ }
+        ensures { λ r. ⌜ r ≡ findingOf self (config .f) epoch leader j bits (messageOf kind (now (body .entry))) ⌝ }
     {
         if !self.takes(config.n, epoch, leader, j, kind, body) {
-            return Verdict::Ignored;
+            return Finding::Ignored;
         }
         let fault = fault_of(config.n, config.f, kind, body, bits);
         if fault.code().is_done() {
-            return Verdict::Taken;
+            return Finding::Taken;
         }
-        Verdict::Wrong(fault)
+        Finding::Wrong(fault)
     }
 
     // Whether the conditions of the message's rule hold.

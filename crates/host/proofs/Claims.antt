@@ -91,7 +91,7 @@ refusal-changes-nothing = (node-refusals, sender-refusals, contract-refusals)
 -- ---- an instance: three of four members may not be faulty, so a contract of such terms is no state, and a deposit is answered STATE
 
 abbrev bad-terms : Terms
-bad-terms = record { observing = 2; sending = 3; n = 4; f = 3 }
+bad-terms = record { «observation_fee» = 2; «sending_fee» = 3; n = 4; f = 3 }
 
 abbrev lent-badly : LentContract
 lent-badly = withContract (freshContract bad-terms) (payingOutcome answer.Done 0)

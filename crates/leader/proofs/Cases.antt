@@ -25,7 +25,7 @@ either P true x y f g = f refl
 either P false x y f g = g refl
 
 -- the tables are empty in any case
-pub round-cases : (P : Leader → Type 0) (c : Config) (s : Leader) → ((rounding : ℕ) → rounding ≤ 1 → P (emptyRound collecting (s .round + 1) rounding)) → P (nextRound c s .leader)
+pub round-cases : (P : Leader → Type 0) (c : Config) (s : Leader) → ((«t_round» : ℕ) → «t_round» ≤ 1 → P (emptyRound collecting (s .round + 1) «t_round»)) → P (nextRound c s .leader)
 unfolding nextRound
 round-cases P c s f =
     either (λ (l : Led). P (l .leader)) (eqb (s .round) (c .«r_max»))

@@ -110,10 +110,10 @@ grace-starts-at-the-entry c s epoch j v g small low high l e =
     let k = lived-tallied c small l in
     let more = observe-more c s epoch j v g small (k .long) low high e in
     record {
-      entry = observing-cases (λ l. l .gracing ≡ timer.Start → (s .phase ≡ collecting) × (observedBy (c .n) s ≡ 2 * c .f)) c s j v
+      entry = observing-cases (λ l. l .«t_grace» ≡ timer.Start → (s .phase ≡ collecting) × (observedBy (c .n) s ≡ 2 * c .f)) c s j v
           (λ many q. (still-collecting c s epoch j v g (k .counted) (omega arith) e, omega arith))
           (λ few q. let z : _≡_ {A = ℕ} 0 1 = cc in absurd (omega arith));
-      starts = λ many. observing-cases (λ l. (l .gracing ≡ timer.Start) × (l .leader .phase ≡ inGrace)) c s j v
+      starts = λ many. observing-cases (λ l. (l .«t_grace» ≡ timer.Start) × (l .leader .phase ≡ inGrace)) c s j v
           (λ at. (refl, refl))
           (λ off. absurd (off (omega arith)));
     }
@@ -178,7 +178,7 @@ three-are-more-than-2f : 2 < observedBy 4 (observeAll four begins three)
 unfolding observeAll observing
 three-are-more-than-2f = always-counted four (observeAll four begins three) (omega arith) three-lived .grace refl
 
-third-starts-grace : observing four (observeAll four begins two) 4 (pos 105) .gracing ≡ timer.Start
+third-starts-grace : observing four (observeAll four begins two) 4 (pos 105) .«t_grace» ≡ timer.Start
 unfolding observeAll observing
 third-starts-grace = grace-starts-at-the-entry four (observeAll four begins two) 7 4 (pos 105) [] (omega arith) (omega arith) (omega arith) two-lived refl .starts refl .0
 

@@ -13,22 +13,22 @@ use Rattle.quorum.specs.Sort.{sort}
 use Rattle.quorum.proofs.Sort.{length-perm, sort-same}
 use Rattle.frame.specs.Message.{Observation, noObservation}
 use Rattle.outbox.specs.Written.{observed, observations}
-use Rattle.leader.specs.declared.Line.{Line}
+use Rattle.leader.specs.declared.listing.Members.{Members}
 use Rattle.leader.specs.Listed.{Holds, notAfter}
 use Rattle.leader.specs.Takes.{sameEntry, sameList}
 use Rattle.leader.proofs.Orders.{byNotAfter}
 
 -- ---- lines
 
-abbrev pub line : List ℕ → ℕ → Line
+abbrev pub line : List ℕ → ℕ → Members
 line members len = record { members = members; len = len }
 
 -- what a line holds lies within its array
-pub holds-within : {r : Line} {l : List ℕ} → Holds r l → r .len ≤ length (r .members)
+pub holds-within : {r : Members} {l : List ℕ} → Holds r l → r .len ≤ length (r .members)
 holds-within {r} h = omega (arith, h .len, ap length (h .members), length-take (r .len) (r .members))
 
 -- and is as long as it says
-pub holds-length : {r : Line} {l : List ℕ} → Holds r l → r .len ≡ length (take (r .len) (r .members))
+pub holds-length : {r : Members} {l : List ℕ} → Holds r l → r .len ≡ length (take (r .len) (r .members))
 holds-length h = h .len ∙ ap length (sym (h .members))
 
 pub holds-none : (members : List ℕ) → Holds (line members 0) []
@@ -40,15 +40,15 @@ holds-more members k x {l} g h =
     record { len = rw length-append (omega (arith, h .len)); members = rw (add-one, take-suc-set members k x g, h .members) }
 
 -- the same members in order
-pub holds-sorted : (values : List ℤ) {r : Line} (out : List ℕ) {l : List ℕ} → Holds r l → take (r .len) out ≡ sort (notAfter values) (take (r .len) (r .members)) → Holds (line out (r .len)) (sort (notAfter values) l)
+pub holds-sorted : (values : List ℤ) {r : Members} (out : List ℕ) {l : List ℕ} → Holds r l → take (r .len) out ≡ sort (notAfter values) (take (r .len) (r .members)) → Holds (line out (r .len)) (sort (notAfter values) l)
 holds-sorted values out {l} h e =
     record { len = h .len ∙ length-perm (sort-same (byNotAfter values) l); members = e ∙ ap (sort (notAfter values)) (h .members) }
 
 -- at most m of them: all, or the first m
-pub holds-all : {r : Line} (m : ℕ) {l : List ℕ} → r .len ≤ m → Holds r l → Holds r (take m l)
+pub holds-all : {r : Members} (m : ℕ) {l : List ℕ} → r .len ≤ m → Holds r l → Holds r (take m l)
 holds-all m {l} g h = rw (take-all m l (omega (arith, h .len))) h
 
-pub holds-first : {r : Line} (m : ℕ) {l : List ℕ} → m ≤ r .len → Holds r l → Holds (line (r .members) m) (take m l)
+pub holds-first : {r : Members} (m : ℕ) {l : List ℕ} → m ≤ r .len → Holds r l → Holds (line (r .members) m) (take m l)
 holds-first {r} m {l} g h =
     record {
       len = sym (length-take-le m l (omega (arith, h .len)));

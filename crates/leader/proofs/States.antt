@@ -32,30 +32,30 @@ use Rattle.leader.proofs.Tables.{observe-count}
 
 pub record InRange (s : Leader) : Type 0 where
   pub phase : s .phase ≤ finished
-  pub rounding : s .rounding ≤ 1
-  pub gracing : s .gracing ≤ 1
+  pub «t_round» : s .«t_round» ≤ 1
+  pub «t_grace» : s .«t_grace» ≤ 1
   pub observed : flags (s .observed) ≡ true
   pub reported : flags (s .reported) ≡ true
 
 pub good-facts : (s : Leader) → goodLeader s ≡ true → InRange s
 unfolding goodLeader
 good-facts s h =
-    let p = and-true (leb (s .phase) finished && leb (s .rounding) 1 && leb (s .gracing) 1 && flags (s .observed)) (flags (s .reported)) h in
-    let q = and-true (leb (s .phase) finished && leb (s .rounding) 1 && leb (s .gracing) 1) (flags (s .observed)) (p .0) in
-    let r = and-true (leb (s .phase) finished && leb (s .rounding) 1) (leb (s .gracing) 1) (q .0) in
-    let t = and-true (leb (s .phase) finished) (leb (s .rounding) 1) (r .0) in
-    record { phase = leb-true _ _ (t .0); rounding = leb-true _ _ (t .1); gracing = leb-true _ _ (r .1); observed = q .1; reported = p .1 }
+    let p = and-true (leb (s .phase) finished && leb (s .«t_round») 1 && leb (s .«t_grace») 1 && flags (s .observed)) (flags (s .reported)) h in
+    let q = and-true (leb (s .phase) finished && leb (s .«t_round») 1 && leb (s .«t_grace») 1) (flags (s .observed)) (p .0) in
+    let r = and-true (leb (s .phase) finished && leb (s .«t_round») 1) (leb (s .«t_grace») 1) (q .0) in
+    let t = and-true (leb (s .phase) finished) (leb (s .«t_round») 1) (r .0) in
+    record { phase = leb-true _ _ (t .0); «t_round» = leb-true _ _ (t .1); «t_grace» = leb-true _ _ (r .1); observed = q .1; reported = p .1 }
 
 pub facts-good : (s : Leader) → InRange s → goodLeader s ≡ true
 unfolding goodLeader
 facts-good s r =
-    rw (le-leb (s .phase) finished (r .phase), le-leb (s .rounding) 1 (r .rounding), le-leb (s .gracing) 1 (r .gracing), r .observed, r .reported)
+    rw (le-leb (s .phase) finished (r .phase), le-leb (s .«t_round») 1 (r .«t_round»), le-leb (s .«t_grace») 1 (r .«t_grace»), r .observed, r .reported)
 
 pub next-in-range : (c : Config) (s t : Leader) → Next c s t → InRange s → InRange t
 unfolding closing
 next-in-range c s t by-round r =
     let none = flags-none members in
-    round-cases InRange c s (λ rounding h. search needs)
+    round-cases InRange c s (λ «t_round» h. search needs)
 next-in-range c s t (by-observe epoch j v g low high e) r =
     let flag = flags-mark (s .observed) (j - 1) (r .observed) in
     observing-cases (λ l. InRange (l .leader)) c s j v (λ e. search needs) (λ e. search needs)
@@ -105,14 +105,14 @@ taken-report s epoch j xs g e =
 
 fired-grace : (n f : ℕ) (s : Leader) → firesGrace n f s true ≡ true → (s .phase ≡ inGrace) × (2 * f < observedBy n s)
 fired-grace n f s e =
-    let armed = eqb (s .gracing) 1 && eqb (s .phase) inGrace in
+    let armed = eqb (s .«t_grace») 1 && eqb (s .phase) inGrace in
     let p = and-true armed (ltb (2 * f) (observedBy n s)) (and-true (armed && ltb (2 * f) (observedBy n s)) (ltb 0 (s .round)) e .0) in
-    (eqb-true (s .phase) inGrace (and-true (eqb (s .gracing) 1) (eqb (s .phase) inGrace) (p .0) .1), ltb-true (2 * f) (observedBy n s) (p .1))
+    (eqb-true (s .phase) inGrace (and-true (eqb (s .«t_grace») 1) (eqb (s .phase) inGrace) (p .0) .1), ltb-true (2 * f) (observedBy n s) (p .1))
 
 next-tallied : (c : Config) (s t : Leader) → c .n ≤ members → Next c s t → Tallied c s → Tallied c t
 unfolding closing
 next-tallied c s t small by-round k =
-    round-cases (Tallied c) c s (λ rounding h. record { counted = omega (arith, none-count (c .n) members); long = length-replicate {A = ℕ} members 0 })
+    round-cases (Tallied c) c s (λ «t_round» h. record { counted = omega (arith, none-count (c .n) members); long = length-replicate {A = ℕ} members 0 })
 next-tallied c s t small (by-observe epoch j v g low high e) k =
     let more = observe-more c s epoch j v g small (k .long) low high e in
     let long = length-set (s .observed) (j - 1) 1 ∙ k .long in
@@ -149,7 +149,7 @@ still-collecting c s epoch j v g k few e =
 
 pub phase-rises : (c : Config) (s t : Leader) → Next c s t → s .round ≡ t .round → s .phase ≤ t .phase
 unfolding closing
-phase-rises c s t by-round e = absurd (round-cases (λ t. s .round ≡ t .round → ⊥) c s (λ rounding h q. omega arith) e)
+phase-rises c s t by-round e = absurd (round-cases (λ t. s .round ≡ t .round → ⊥) c s (λ «t_round» h q. omega arith) e)
 phase-rises c s t (by-observe epoch j v g low high h) e =
     let k = taken-observe s epoch j v g h in
     observing-cases (λ l. s .phase ≤ l .leader .phase) c s j v (λ at. k .most) (λ off. le-refl (s .phase))

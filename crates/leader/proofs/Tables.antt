@@ -215,6 +215,6 @@ leader-perm c s {os} {os′} r h m none d =
     let reported = unchanged-perm c (c .n) s r m d (λ t. t .reported) (λ t. refl) (λ t o. refl) in
     let phase = raised-perm c (λ t. t .phase) inGrace (λ t. refl) (λ t o. refl) s r f in
     let round = unchanged-perm c (c .n) s r m d (λ t. t .round) (λ t. refl) (λ t o. refl) in
-    let rounding = unchanged-perm c (c .n) s r m d (λ t. t .rounding) (λ t. refl) (λ t o. refl) in
-    let gracing = raised-perm c (λ t. t .gracing) 1 (λ t. refl) (λ t o. refl) s r f in
-    λ i. record { values = values i; observed = observed i; reported = reported i; phase = phase i; round = round i; rounding = rounding i; gracing = gracing i }
+    let «t_round» = unchanged-perm c (c .n) s r m d (λ t. t .«t_round») (λ t. refl) (λ t o. refl) in
+    let «t_grace» = raised-perm c (λ t. t .«t_grace») 1 (λ t. refl) (λ t o. refl) s r f in
+    λ i. record { values = values i; observed = observed i; reported = reported i; phase = phase i; round = round i; «t_round» = «t_round» i; «t_grace» = «t_grace» i }

@@ -58,8 +58,8 @@ FinalPasses =
 -- T_grace starts at the entry that makes more than 2f, and at no other: a taken OBSERVE starts it exactly where the leader was still collecting,
 -- with 2f observations.
 pub record StartsAt (c : Config) (s : Leader) (j : ℕ) (v : ℤ) : Type 0 where
-  pub entry : observing c s j v .gracing ≡ timer.Start → (s .phase ≡ collecting) × (observedBy (c .n) s ≡ 2 * c .f)
-  pub starts : observedBy (c .n) s ≡ 2 * c .f → (observing c s j v .gracing ≡ timer.Start) × (observing c s j v .leader .phase ≡ inGrace)
+  pub entry : observing c s j v .«t_grace» ≡ timer.Start → (s .phase ≡ collecting) × (observedBy (c .n) s ≡ 2 * c .f)
+  pub starts : observedBy (c .n) s ≡ 2 * c .f → (observing c s j v .«t_grace» ≡ timer.Start) × (observing c s j v .leader .phase ≡ inGrace)
 
 abbrev pub GraceStartsAtTheEntry : Type 0
 GraceStartsAtTheEntry =

@@ -20,7 +20,7 @@ use Rattle.leader.specs.State.{collecting, inGrace, reporting, finished,
 use Rattle.leader.specs.Takes.{observedBy, reportedBy}
 
 abbrev pub led : Leader → Asking → Timer → Timer → Led
-led s asking rounding gracing = record { leader = s; asking = asking; rounding = rounding; gracing = gracing }
+led s asking «t_round» «t_grace» = record { leader = s; asking = asking; «t_round» = «t_round»; «t_grace» = «t_grace» }
 
 -- nothing happens
 abbrev pub stays : Leader → Led
@@ -44,11 +44,11 @@ noSignatures signatures = over signatures 0 (replicate signaturesSize 0)
 
 abbrev pub withObservation : Leader → ℕ → ℤ → Leader
 withObservation s j v =
-    record { values = set (s .values) (j - 1) v; observed = mark (s .observed) (j - 1); reported = s .reported; phase = s .phase; round = s .round; rounding = s .rounding; gracing = s .gracing }
+    record { values = set (s .values) (j - 1) v; observed = mark (s .observed) (j - 1); reported = s .reported; phase = s .phase; round = s .round; «t_round» = s .«t_round»; «t_grace» = s .«t_grace» }
 
 abbrev pub withGrace : Leader → Leader
 withGrace s =
-    record { values = s .values; observed = s .observed; reported = s .reported; phase = inGrace; round = s .round; rounding = s .rounding; gracing = 1 }
+    record { values = s .values; observed = s .observed; reported = s .reported; phase = inGrace; round = s .round; «t_round» = s .«t_round»; «t_grace» = 1 }
 
 -- "the entry making more than 2f starts T_grace": the one that makes 2f + 1
 unfoldable pub observing : Config → Leader → ℕ → ℤ → Led
@@ -65,18 +65,18 @@ observeSigned signatures j g = over signatures (signatureSize * (j - 1)) g
 -- "sort by value, then by member; send REPORT-REQ."
 unfoldable pub closing : Leader → Led
 closing s =
-    led (record { values = s .values; observed = s .observed; reported = s .reported; phase = reporting; round = s .round; rounding = s .rounding; gracing = 0 })
+    led (record { values = s .values; observed = s .observed; reported = s .reported; phase = reporting; round = s .round; «t_round» = s .«t_round»; «t_grace» = 0 })
     asking.Reports timer.Leave timer.Leave
 
 -- ---- REPORT
 
 abbrev pub withReport : Leader → ℕ → Leader
 withReport s j =
-    record { values = s .values; observed = s .observed; reported = mark (s .reported) (j - 1); phase = s .phase; round = s .round; rounding = s .rounding; gracing = s .gracing }
+    record { values = s .values; observed = s .observed; reported = mark (s .reported) (j - 1); phase = s .phase; round = s .round; «t_round» = s .«t_round»; «t_grace» = s .«t_grace» }
 
 abbrev pub nowFinished : Leader → Leader
 nowFinished s =
-    record { values = s .values; observed = s .observed; reported = s .reported; phase = finished; round = s .round; rounding = s .rounding; gracing = s .gracing }
+    record { values = s .values; observed = s .observed; reported = s .reported; phase = finished; round = s .round; «t_round» = s .«t_round»; «t_grace» = s .«t_grace» }
 
 -- "with more than f, send FINAL .. and take no more reports this round"
 unfoldable pub reportingFrom : Config → Leader → ℕ → Led

@@ -27,12 +27,12 @@ finished = 4
 -- STATE: "a field out of its range"; every value and every 8-bit round is in range
 unfoldable pub goodLeader : Leader → Bool
 goodLeader s =
-    leb (s .phase) finished && leb (s .rounding) 1 && leb (s .gracing) 1 && flags (s .observed) && flags (s .reported)
+    leb (s .phase) finished && leb (s .«t_round») 1 && leb (s .«t_grace») 1 && flags (s .observed) && flags (s .reported)
 
 -- a round in which nobody has observed or reported
 abbrev pub emptyRound : ℕ → ℕ → ℕ → Leader
-emptyRound phase round rounding =
-    record { values = replicate members (pos 0); observed = replicate members 0; reported = replicate members 0; phase = phase; round = round; rounding = rounding; gracing = 0 }
+emptyRound phase round «t_round» =
+    record { values = replicate members (pos 0); observed = replicate members 0; reported = replicate members 0; phase = phase; round = round; «t_round» = «t_round»; «t_grace» = 0 }
 
 -- a fresh instance, before its leader's first round: tables empty, timers stopped
 abbrev pub noRound : Leader

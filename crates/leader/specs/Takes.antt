@@ -69,11 +69,11 @@ stands n s bits (finalEcho a) = true
 -- "T_grace, with m > 2f"; the timer is armed, the phase is grace, and there is a round to speak of
 abbrev pub firesGrace : ℕ → ℕ → Leader → Bool → Bool
 firesGrace n f s leads =
-    leads && eqb (s .gracing) 1 && eqb (s .phase) inGrace && ltb (2 * f) (observedBy n s) && ltb 0 (s .round)
+    leads && eqb (s .«t_grace») 1 && eqb (s .phase) inGrace && ltb (2 * f) (observedBy n s) && ltb 0 (s .round)
 
 -- "T_round starts the next round."
 abbrev pub firesRound : Leader → Bool → Bool
-firesRound s leads = leads && eqb (s .rounding) 1
+firesRound s leads = leads && eqb (s .«t_round») 1
 
 -- "END: .. a round past 255"
 abbrev pub pastEnd : Leader → Bool

@@ -31,8 +31,8 @@ record PaceArmed (resend progress : ℕ) (p : Paced) : Type 0 where
   progress-flag : p .pace .progress ≡ armed (p .progress) progress
 
 record LeaderArmed (round grace : ℕ) (l : Led) : Type 0 where
-  round-flag : l .leader .rounding ≡ armed (l .rounding) round
-  grace-flag : l .leader .gracing ≡ armed (l .gracing) grace
+  round-flag : l .leader .«t_round» ≡ armed (l .«t_round») round
+  grace-flag : l .leader .«t_grace» ≡ armed (l .«t_grace») grace
 
 -- ---- the pacemaker
 
@@ -71,15 +71,15 @@ begun-armed : (c : Config) (epoch round grace : ℕ) → LeaderArmed round grace
 begun-armed c epoch round grace =
     begun-cases (LeaderArmed round grace) c epoch (next-armed c noRound round grace) (record { round-flag = refl; grace-flag = refl })
 
-observing-armed : (c : Config) (s : Leader) (j : ℕ) (v : ℤ) → LeaderArmed (s .rounding) (s .gracing) (observing c s j v)
+observing-armed : (c : Config) (s : Leader) (j : ℕ) (v : ℤ) → LeaderArmed (s .«t_round») (s .«t_grace») (observing c s j v)
 observing-armed c s j v =
-    observing-cases (LeaderArmed (s .rounding) (s .gracing)) c s j v (λ e. record { round-flag = refl; grace-flag = refl }) (λ e. record { round-flag = refl; grace-flag = refl })
+    observing-cases (LeaderArmed (s .«t_round») (s .«t_grace»)) c s j v (λ e. record { round-flag = refl; grace-flag = refl }) (λ e. record { round-flag = refl; grace-flag = refl })
 
-reporting-armed : (c : Config) (s : Leader) (j : ℕ) → LeaderArmed (s .rounding) (s .gracing) (reportingFrom c s j)
+reporting-armed : (c : Config) (s : Leader) (j : ℕ) → LeaderArmed (s .«t_round») (s .«t_grace») (reportingFrom c s j)
 unfolding reportingFrom
 reporting-armed c s j =
     let t = withReport s j in
-    either (LeaderArmed (s .rounding) (s .gracing)) (ltb (c .f) (reportedBy (c .n) t)) (led (nowFinished t) asking.Final timer.Leave timer.Leave) (stays t)
+    either (LeaderArmed (s .«t_round») (s .«t_grace»)) (ltb (c .f) (reportedBy (c .n) t)) (led (nowFinished t) asking.Final timer.Leave timer.Leave) (stays t)
     (λ e. record { round-flag = refl; grace-flag = refl }) (λ e. record { round-flag = refl; grace-flag = refl })
 
 -- ---- all of them
@@ -90,7 +90,7 @@ armed-ruled (by-start time) = record { resend = refl; progress = refl; round = r
 armed-ruled (by-resend time h) = record { resend = refl; progress = refl; round = refl; grace = refl }
 armed-ruled (by-progress time h) = record { resend = refl; progress = refl; round = refl; grace = refl }
 armed-ruled {w} (by-round time h g) =
-    let k = next-armed (w .node .config) (w .node .leader) 0 (w .node .leader .gracing) in
+    let k = next-armed (w .node .config) (w .node .leader) 0 (w .node .leader .«t_grace») in
     record { resend = refl; progress = refl; round = k .round-flag; grace = k .grace-flag }
 armed-ruled (by-grace time h) = record { resend = refl; progress = refl; round = refl; grace = refl }
 armed-ruled {w} (by-hearing d x s h) =
@@ -99,7 +99,7 @@ armed-ruled {w} (by-hearing d x s h) =
 armed-ruled {w} (by-moving d x s h) =
     let n = w .node in
     let k = heard-armed (n .config .n) (n .config .f) (n .pace) (d .link) x in
-    let l = begun-armed (n .config) (heardFrom n (d .link) x .pace .epoch) (n .leader .rounding) (n .leader .gracing) in
+    let l = begun-armed (n .config) (heardFrom n (d .link) x .pace .epoch) (n .leader .«t_round») (n .leader .«t_grace») in
     record { resend = k .resend-flag; progress = k .progress-flag; round = l .round-flag; grace = l .grace-flag }
 armed-ruled {w} (by-following d m s h g) =
     let n = w .node in

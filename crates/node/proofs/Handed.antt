@@ -29,7 +29,7 @@ use Rattle.follower.specs.Takes.{takes, faultOf}
 use Rattle.follower.specs.Rules.{requests, received, followOf}
 use Rattle.follower.specs.Handed.{handedOf, handedPart}
 use Rattle.follower.proofs.Rules.{requested-each, asked-each, echoed-each}
-use Rattle.follower.proofs.Verdicts.{verdict-taken}
+use Rattle.follower.proofs.Findings.{finding-taken}
 use Rattle.node.specs.declared.Node.{Node}
 use Rattle.node.specs.State.{epochOf, leaderNow}
 use Rattle.node.specs.Event.{Whole, Delivery, Event, delivers, Effect, done}
@@ -105,7 +105,7 @@ unfolding pacing moving following leading
 hands-turn c es w e f k is typed (paced p t s) = hands-none c es w _ (arriving e)
 hands-turn c es w e f k is typed (moved p t s) = hands-none c es w _ (arriving e)
 hands-turn c es w e f k is typed (followed d m s t) =
-    let p = verdict-taken (w .node .follower) _ _ _ (d .link) (d .bits) m t in
+    let p = finding-taken (w .node .follower) _ _ _ (d .link) (d .bits) m t in
     follow-hands c es w k d is (typed .frame) m s (p .0) (p .1)
 hands-turn c es w e f k is typed (led l g h) = hands-none c es w _ (arriving e)
 
@@ -184,7 +184,7 @@ past-turn : (w : Whole) (e : Event) (f : Effect) (a : Attested) → Past (w .nod
 unfolding pacing moving following leading
 past-turn w e f a q (paced p t s) = past-same (w .node) _ a s refl (λ h. h) q
 past-turn w e f a q (moved p t s) = past-moved (w .node) _ a s q
-past-turn w e f a q (followed d m s t) = past-follows (w .node) a (d .link) (d .time) (d .commit) q m (verdict-taken (w .node .follower) _ _ _ (d .link) (d .bits) m t .0)
+past-turn w e f a q (followed d m s t) = past-follows (w .node) a (d .link) (d .time) (d .commit) q m (finding-taken (w .node .follower) _ _ _ (d .link) (d .bits) m t .0)
 past-turn w e f a q (led l g h) = past-same (w .node) _ a refl refl (λ h. h) q
 
 past-after : (w : Whole) (e : Event) (a : Attested) → Past (w .node) a → Past (after w e .node) a

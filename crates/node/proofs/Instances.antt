@@ -37,7 +37,7 @@ use Rattle.pacemaker.specs.State.{goodPace}
 use Rattle.pacemaker.specs.Rules as pacemaker
 use Rattle.follower.specs.declared.Follower.{Follower}
 use Rattle.follower.specs.State.{goodFollower, inRound}
-use Rattle.follower.specs.Takes.{verdictOf}
+use Rattle.follower.specs.Takes.{findingOf}
 use Rattle.follower.specs.Rules.{requested, asked as asked-for}
 use Rattle.leader.specs.declared.Leader.{Leader}
 use Rattle.leader.specs.State.{collecting, inGrace, goodLeader, emptyRound, noRound}
@@ -134,7 +134,7 @@ observes j v = says j (observe 1 1 v blank)
 
 abbrev observed-by : List ℤ → List ℕ → Leader
 observed-by values observed =
-    record { values = values; observed = observed; reported = zeros members; phase = inGrace; round = 1; rounding = 1; gracing = 1 }
+    record { values = values; observed = observed; reported = zeros members; phase = inGrace; round = 1; «t_round» = 1; «t_grace» = 1 }
 
 abbrev pub graced : Whole
 graced =
@@ -160,7 +160,7 @@ request : Delivery
 request = says 2 (observeReq 1 1)
 
 request-done : step moved (delivers request) ≡ done (effectOf moved (delivers request))
-unfolding request afterState goodState goodNode goodConfig goodFeed noneEmpty sum goodPace goodFollower goodLeader flags goodKept deliveryAnswer messageAnswer frameAnswer afterShort afterVersion afterKind afterSender bodyAnswer bodyLength messageOf frameBytes bodyBytes headBytes trailerBytes beBytes beNumber beFrom numberOf followerAnswer verdictOf
+unfolding request afterState goodState goodNode goodConfig goodFeed noneEmpty sum goodPace goodFollower goodLeader flags goodKept deliveryAnswer messageAnswer frameAnswer afterShort afterVersion afterKind afterSender bodyAnswer bodyLength messageOf frameBytes bodyBytes headBytes trailerBytes beBytes beNumber beFrom numberOf followerAnswer findingOf
 request-done = passed moved (delivers request) refl
 
 request-answered : effectOf moved (delivers request) .sent ≡ observe 1 1 (pos 105) ownSignature ∷ []
@@ -296,7 +296,7 @@ listing : Delivery
 listing = delivery 2 0 (pos 105) none 7 (ownFrame (member 2) (reportReq 1 1 three))
 
 listing-done : step in-first (delivers listing) ≡ done (effectOf in-first (delivers listing))
-unfolding listing afterState goodState goodNode goodConfig goodFeed noneEmpty sum goodPace goodFollower goodLeader flags goodKept deliveryAnswer messageAnswer frameAnswer afterShort afterVersion afterKind afterSender bodyAnswer bodyLength shapeOf messageOf entries frameBytes bodyBytes countedBytes flat signedBytes observationBytes headBytes trailerBytes beBytes beNumber beFrom allMembers numberOf followerAnswer verdictOf listFault notFalling bitsFault firstAt
+unfolding listing afterState goodState goodNode goodConfig goodFeed noneEmpty sum goodPace goodFollower goodLeader flags goodKept deliveryAnswer messageAnswer frameAnswer afterShort afterVersion afterKind afterSender bodyAnswer bodyLength shapeOf messageOf entries frameBytes bodyBytes countedBytes flat signedBytes observationBytes headBytes trailerBytes beBytes beNumber beFrom allMembers numberOf followerAnswer findingOf listFault notFalling bitsFault firstAt
 listing-done = passed in-first (delivers listing) refl
 
 listing-answered : effectOf in-first (delivers listing) .sent ≡ report 1 1 (map (λ (x : Signed). x .said) three) ownSignature ∷ []

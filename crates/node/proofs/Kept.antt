@@ -27,7 +27,7 @@ use Rattle.follower.specs.Takes.{takes, faultOf}
 use Rattle.follower.specs.Rules.{received, followOf, keptOf}
 use Rattle.follower.specs.Claims.{Carries}
 use Rattle.follower.proofs.Rules.{requested-each, asked-each, echoed-each}
-use Rattle.follower.proofs.Verdicts.{verdict-taken}
+use Rattle.follower.proofs.Findings.{finding-taken}
 use Rattle.node.specs.declared.Node.{Node}
 use Rattle.node.specs.State.{epochOf, leaderNow}
 use Rattle.node.specs.Event.{Whole, Delivery, Event, delivers, Effect}
@@ -140,7 +140,7 @@ module _ (c : Config) (es : List Event) (few : c .n ≤ members) where
       record { config = k .config; room = omega (arith, length-over (w .kept) 0 (replicate keptSize 0), k .room); held = λ h. absurd (false≢true h) }
   keeps-turn w e f one typed (followed d m s t) k =
       let n = w .node in
-      let p = verdict-taken (n .follower) _ _ _ (d .link) (d .bits) m t in
+      let p = finding-taken (n .follower) _ _ _ (d .link) (d .bits) m t in
       let r = followOf (n .config) (n .follower) (d .link) (d .time) (d .commit) m in
       record {
         config = k .config;

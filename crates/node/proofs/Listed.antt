@@ -22,9 +22,9 @@ use Rattle.frame.specs.Check.{goodLength, bodyAnswer, afterSender, afterKind, a
 use Rattle.report.proofs.Listed.{In, either-in}
 use Rattle.pacemaker.specs.State.{isStarted}
 use Rattle.pacemaker.specs.Rules as pacemaker
-use Rattle.follower.specs.declared.Verdict.{Verdict}
-use Rattle.follower.specs.declared.Verdict.the-variants.{Ignored, Wrong, Taken}
-use Rattle.follower.specs.Takes.{verdictOf, answerOf}
+use Rattle.follower.specs.declared.Finding.{Finding}
+use Rattle.follower.specs.declared.Finding.the-variants.{Ignored, Wrong, Taken}
+use Rattle.follower.specs.Takes.{findingOf, answerOf}
 use Rattle.leader.specs.Takes as leader
 use Rattle.node.specs.declared.Node.{Node}
 use Rattle.node.specs.declared.Fired.{Fired}
@@ -52,16 +52,16 @@ module _ (d : Delivery) where
       (either-in all (not (goodLength (kindIn f) (bodyIn f))) _ _ refl
       (either-in all (not (goodMessage n (messageOf (kindIn f) (bodyIn f)))) _ _ refl refl))))))
 
-  verdict-in : (v : Verdict) → In all (answerOf v)
+  finding-in : (v : Finding) → In all (answerOf v)
   unfolding numberOf
-  verdict-in Ignored = refl
-  verdict-in (Wrong x) = refl
-  verdict-in Taken = refl
+  finding-in Ignored = refl
+  finding-in (Wrong x) = refl
+  finding-in Taken = refl
 
   module _ (n : Node) (j bits : ℕ) where
     follower-in : (m : Message) → In all (followerAnswer n j bits m)
     unfolding followerAnswer
-    follower-in m = verdict-in (verdictOf (n .follower) (n .config .f) (epochOf n) (leaderNow n) j bits m)
+    follower-in m = finding-in (findingOf (n .follower) (n .config .f) (epochOf n) (leaderNow n) j bits m)
 
     leader-in : (m : Message) → In all (leaderAnswer n j bits m)
     unfolding numberOf leaderAnswer

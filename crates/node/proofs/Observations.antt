@@ -24,7 +24,7 @@ use Rattle.frame.specs.Check.{bodyAnswer}
 use Rattle.frame.proofs.Entries.{length-part}
 use Rattle.frame.proofs.Checked.{checked-frame, checked-observe}
 use Rattle.follower.proofs.Rules.{mark-stays}
-use Rattle.follower.proofs.Verdicts.{verdict-taken}
+use Rattle.follower.proofs.Findings.{finding-taken}
 use Rattle.leader.specs.declared.Leader.{Leader}
 use Rattle.leader.specs.State.{collecting, inGrace}
 use Rattle.leader.specs.Takes as leader
@@ -65,7 +65,7 @@ ruled-unmarked w d f e r v g m (by-hearing k x s h) = let z : _≡_ {A = ℕ} 0 
 ruled-unmarked w d f e r v g m (by-moving k x s h) = let z : _≡_ {A = ℕ} 0 1 = cc in absurd (omega arith)
 ruled-unmarked w d f e r v g m (by-following k x s t h) =
     let same : x ≡ observe e r v g = cc in
-    absurd (false≢true (rw same at (verdict-taken (w .node .follower) _ _ _ (d .link) (d .bits) x t .0)))
+    absurd (false≢true (rw same at (finding-taken (w .node .follower) _ _ _ (d .link) (d .bits) x t .0)))
 ruled-unmarked w d f e r v g m (by-observe k x y u i s t) = takes-unmarked (w .node .leader) (leads (w .node)) (epochOf (w .node)) (d .link) x y u i t
 ruled-unmarked w d f e r v g m (by-report k x y xs i s t h) = let z : _≡_ {A = ℕ} 0 1 = cc in absurd (omega arith)
 

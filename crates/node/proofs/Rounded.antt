@@ -35,7 +35,7 @@ use Rattle.report.proofs.Kept.{kept-stands}
 use Rattle.pacemaker.specs.State.{goodPace}
 use Rattle.pacemaker.specs.Rules as pacemaker
 use Rattle.follower.specs.State.{isSet, goodFollower}
-use Rattle.follower.specs.Takes.{verdictOf}
+use Rattle.follower.specs.Takes.{findingOf}
 use Rattle.follower.specs.Rules.{requested, received, echoed}
 use Rattle.leader.specs.State.{collecting, goodLeader, emptyRound}
 use Rattle.leader.specs.Rules.{nextRound, observing}
@@ -289,7 +289,7 @@ abbrev last : Whole
 last = follows 2 1 1 (1 ∷ 0 ∷ 0 ∷ 1 ∷ zeros (members - 4)) (holding 2)
 
 events-lead : Leads fresh events (attested 1 ∷ attested 2 ∷ []) last
-unfolding startAnswer deliveryAnswer messageAnswer frameAnswer afterShort afterVersion afterKind afterSender bodyAnswer bodyLength shapeOf messageOf entries frameBytes bodyBytes attestedBytes countedBytes flat observationBytes signerBytes headBytes trailerBytes beBytes beNumber beFrom allMembers numberOf followerAnswer verdictOf attestedFault listFault notFalling signersFault repeatFault bitsFault firstAt hearing pacing moving begun nextRound following requested received echoed pacemaker.startOf pacemaker.newEpochOf pacemaker.hearing pacemaker.amplifying pacemaker.moving pacemaker.progressOf
+unfolding startAnswer deliveryAnswer messageAnswer frameAnswer afterShort afterVersion afterKind afterSender bodyAnswer bodyLength shapeOf messageOf entries frameBytes bodyBytes attestedBytes countedBytes flat observationBytes signerBytes headBytes trailerBytes beBytes beNumber beFrom allMembers numberOf followerAnswer findingOf attestedFault listFault notFalling signersFault repeatFault bitsFault firstAt hearing pacing moving begun nextRound following requested received echoed pacemaker.startOf pacemaker.newEpochOf pacemaker.hearing pacemaker.amplifying pacemaker.moving pacemaker.progressOf
 events-lead =
     taken started [] refl refl refl
     (taken (waiting (1 ∷ zeros (members - 1))) [] refl refl refl
@@ -363,7 +363,7 @@ abbrev requests : List Event
 requests = delivers (asks 1) ∷ delivers (asks 2) ∷ delivers (asks 3) ∷ []
 
 requests-sent : sentIn moved requests ≡ observe 1 1 (pos 105) ownSignature ∷ observe 1 2 (pos 105) ownSignature ∷ newEpoch 5 ∷ []
-unfolding sentIn step afterState goodState goodNode goodConfig goodFeed noneEmpty sum goodPace goodFollower goodLeader flags goodKept deliveryAnswer messageAnswer frameAnswer afterShort afterVersion afterKind afterSender bodyAnswer bodyLength messageOf frameBytes bodyBytes headBytes trailerBytes beBytes beNumber beFrom numberOf followerAnswer verdictOf following requested pacemaker.changeLeaderOf
+unfolding sentIn step afterState goodState goodNode goodConfig goodFeed noneEmpty sum goodPace goodFollower goodLeader flags goodKept deliveryAnswer messageAnswer frameAnswer afterShort afterVersion afterKind afterSender bodyAnswer bodyLength messageOf frameBytes bodyBytes headBytes trailerBytes beBytes beNumber beFrom numberOf followerAnswer findingOf following requested pacemaker.changeLeaderOf
 requests-sent = refl
 
 requests-few : 2 ≤ 2
@@ -385,9 +385,9 @@ abbrev before-a-move : List Event
 before-a-move = starts 0 ∷ delivers (says 4 (observeReq 3 1)) ∷ fires fired.Resend 0 ∷ []
 
 restored-sends : sentIn restored before-a-move ≡ newEpoch 3 ∷ newEpoch 3 ∷ []
-unfolding sentIn step afterState goodState goodNode goodConfig goodFeed noneEmpty sum goodPace goodFollower goodLeader flags goodKept startAnswer timerAnswer firing ending deliveryAnswer messageAnswer frameAnswer afterShort afterVersion afterKind afterSender bodyAnswer bodyLength messageOf frameBytes bodyBytes headBytes trailerBytes beBytes beNumber beFrom numberOf followerAnswer verdictOf pacing pacemaker.startOf pacemaker.resendOf
+unfolding sentIn step afterState goodState goodNode goodConfig goodFeed noneEmpty sum goodPace goodFollower goodLeader flags goodKept startAnswer timerAnswer firing ending deliveryAnswer messageAnswer frameAnswer afterShort afterVersion afterKind afterSender bodyAnswer bodyLength messageOf frameBytes bodyBytes headBytes trailerBytes beBytes beNumber beFrom numberOf followerAnswer findingOf pacing pacemaker.startOf pacemaker.resendOf
 restored-sends = refl
 
 restored-waits : Each (λ m. kindOf m ≡ 1) (newEpoch 3 ∷ newEpoch 3 ∷ [])
-unfolding run step afterState goodState goodNode goodConfig goodFeed noneEmpty sum goodPace goodFollower goodLeader flags goodKept startAnswer timerAnswer firing ending deliveryAnswer messageAnswer frameAnswer afterShort afterVersion afterKind afterSender bodyAnswer bodyLength messageOf frameBytes bodyBytes headBytes trailerBytes beBytes beNumber beFrom numberOf followerAnswer verdictOf pacing pacemaker.startOf pacemaker.resendOf
+unfolding run step afterState goodState goodNode goodConfig goodFeed noneEmpty sum goodPace goodFollower goodLeader flags goodKept startAnswer timerAnswer firing ending deliveryAnswer messageAnswer frameAnswer afterShort afterVersion afterKind afterSender bodyAnswer bodyLength messageOf frameBytes bodyBytes headBytes trailerBytes beBytes beNumber beFrom numberOf followerAnswer findingOf pacing pacemaker.startOf pacemaker.resendOf
 restored-waits = subst (Each (λ m. kindOf m ≡ 1)) restored-sends (restored-waits-for-a-move restored before-a-move restored-begun refl .sends)

@@ -30,7 +30,7 @@ use Rattle.follower.specs.State.{isSet, inRound}
 use Rattle.follower.specs.Takes.{takes}
 use Rattle.follower.specs.Rules.{followed as came-to, requests, requested, received, followOf}
 use Rattle.follower.proofs.Rules.{asked-each, echoed-each}
-use Rattle.follower.proofs.Verdicts.{verdict-taken}
+use Rattle.follower.proofs.Findings.{finding-taken}
 use Rattle.leader.specs.declared.Leader.{Leader}
 use Rattle.leader.specs.declared.Asking.{Asking}
 use Rattle.leader.specs.declared.Asking.the-variants as asking
@@ -194,7 +194,7 @@ module _ (epoch : ℕ) where
       (count-append epoch (announced (p .sent)) _ ∙ omega (arith, count-announced epoch (p .sent), count-asked epoch (w .node .config) (p .pace .epoch) (l .leader) (noSignatures (w .signatures)) (l .asking)))
       g
   few-turn w e f (followed d m s t) k g =
-      few-follows epoch (w .node) (d .observation) (d .link) (d .time) (d .commit) k m (verdict-taken (w .node .follower) _ _ _ (d .link) (d .bits) m t .0) g
+      few-follows epoch (w .node) (d .observation) (d .link) (d .time) (d .commit) k m (finding-taken (w .node .follower) _ _ _ (d .link) (d .bits) m t .0) g
   few-turn w e f (led l g h) k q = few-same epoch _ (w .node) _ _ k refl refl (count-asked epoch (w .node .config) (epochOf (w .node)) (l .leader) g (l .asking)) q
 
   few-run : (w : Whole) (es : List Event) → Few epoch (w .node .config .«r_max») (w .node) (countObserves epoch (sentIn w es))
@@ -226,7 +226,7 @@ waits-turn : (w : Whole) (e : Event) (f : Effect) → Turn w e f → isSet (w .n
 unfolding pacing moving following leading
 waits-turn w e f (paced p t s) h q = (announced-each Announces (p .sent) (λ x e. refl), h, none-handed (cond (isSet (w .node .follower .kept)) (w .kept) (arriving e)))
 waits-turn w e f (moved p t s) h q = absurd (q s)
-waits-turn w e f (followed d m s t) h q = absurd (false≢true (sym h ∙ taken-live (w .node .follower) _ _ (d .link) m (verdict-taken (w .node .follower) _ _ _ (d .link) (d .bits) m t .0)))
+waits-turn w e f (followed d m s t) h q = absurd (false≢true (sym h ∙ taken-live (w .node .follower) _ _ (d .link) m (finding-taken (w .node .follower) _ _ _ (d .link) (d .bits) m t .0)))
 waits-turn w e f (led l g t) h q = absurd (false≢true (sym h ∙ leads-live (w .node) t))
 
 waits-run : (w : Whole) (es : List Event) → isSet (w .node .follower .live) ≡ false → epochOf (run w es .node) ≡ epochOf (w .node) → Waits w es

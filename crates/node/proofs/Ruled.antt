@@ -22,9 +22,9 @@ use Rattle.frame.proofs.Claims.{body-is-one, read-is-good}
 use Rattle.pacemaker.specs.declared.Paced.{Paced}
 use Rattle.pacemaker.specs.Rules as pacemaker
 use Rattle.pacemaker.specs.Runs.{Next, by-newepoch}
-use Rattle.follower.specs.declared.Verdict.{Verdict}
-use Rattle.follower.specs.declared.Verdict.the-variants.{Ignored, Wrong, Taken}
-use Rattle.follower.specs.Takes.{verdictOf, answerOf}
+use Rattle.follower.specs.declared.Finding.{Finding}
+use Rattle.follower.specs.declared.Finding.the-variants.{Ignored, Wrong, Taken}
+use Rattle.follower.specs.Takes.{findingOf, answerOf}
 use Rattle.leader.specs.Takes as leader
 use Rattle.leader.specs.Rules.{nextRound, noSignatures, closing}
 use Rattle.node.specs.declared.Node.{Node}
@@ -57,7 +57,7 @@ pub data Ruled (w : Whole) : Event → Effect → Type 0 where
   by-grace : (time : ℕ) → leader.firesGrace (w .node .config .n) (w .node .config .f) (w .node .leader) (leads (w .node)) ≡ true → Ruled w (fires fired.Grace time) (leading w (closing (w .node .leader)) (w .signatures))
   by-hearing : (d : Delivery) (x : ℕ) → Says (w .node) d (newEpoch x) → heardFrom (w .node) (d .link) x .moved ≡ false → Ruled w (delivers d) (pacing w (heardFrom (w .node) (d .link) x))
   by-moving : (d : Delivery) (x : ℕ) → Says (w .node) d (newEpoch x) → heardFrom (w .node) (d .link) x .moved ≡ true → Ruled w (delivers d) (moving w (heardFrom (w .node) (d .link) x))
-  by-following : (d : Delivery) (m : Message) → Says (w .node) d m → verdictOf (w .node .follower) (w .node .config .f) (epochOf (w .node)) (leaderNow (w .node)) (d .link) (d .bits) m ≡ Taken → pastLast (w .node) m ≡ false → Ruled w (delivers d) (following w d m)
+  by-following : (d : Delivery) (m : Message) → Says (w .node) d m → findingOf (w .node .follower) (w .node .config .f) (epochOf (w .node)) (leaderNow (w .node)) (d .link) (d .bits) m ≡ Taken → pastLast (w .node) m ≡ false → Ruled w (delivers d) (following w d m)
   by-observe : (d : Delivery) (e r : ℕ) (v : ℤ) (g : List ℕ) → Says (w .node) d (observe e r v g) → leader.takes (w .node .leader) (leads (w .node)) (epochOf (w .node)) (d .link) (observe e r v g) ≡ true → Ruled w (delivers d) (led-by w (d .link) (observe e r v g))
   by-report : (d : Delivery) (e r : ℕ) (xs : List Observation) (g : List ℕ) → Says (w .node) d (report e r xs g) → leader.takes (w .node .leader) (leads (w .node)) (epochOf (w .node)) (d .link) (report e r xs g) ≡ true → leader.stands (w .node .config .n) (w .node .leader) (d .bits) (report e r xs g) ≡ true → Ruled w (delivers d) (led-by w (d .link) (report e r xs g))
 
@@ -68,17 +68,17 @@ module _ (w : Whole) where
   unfolding firing ending
   timer-ruled fired.Resend time (h, g) = by-resend time h
   timer-ruled fired.Progress time (h, g) = by-progress time g
-  timer-ruled fired.Round time (h, g) = by-round time (and-true (leads (w .node)) (eqb (w .node .leader .rounding) 1) h .0) g
+  timer-ruled fired.Round time (h, g) = by-round time (and-true (leads (w .node)) (eqb (w .node .leader .«t_round») 1) h .0) g
   timer-ruled fired.Grace time (h, g) = by-grace time h
 
   -- ---- a delivery that is not refused
 
   module _ (d : Delivery) where
-    follower-taken : (m : Message) → isDone (followerAnswer (w .node) (d .link) (d .bits) m) ≡ true → verdictOf (w .node .follower) (w .node .config .f) (epochOf (w .node)) (leaderNow (w .node)) (d .link) (d .bits) m ≡ Taken
+    follower-taken : (m : Message) → isDone (followerAnswer (w .node) (d .link) (d .bits) m) ≡ true → findingOf (w .node .follower) (w .node .config .f) (epochOf (w .node)) (leaderNow (w .node)) (d .link) (d .bits) m ≡ Taken
     unfolding followerAnswer numberOf
     follower-taken m h = go _ h
       where
-        go : (v : Verdict) → isDone (answerOf v) ≡ true → v ≡ Taken
+        go : (v : Finding) → isDone (answerOf v) ≡ true → v ≡ Taken
         go Ignored e = absurd (false≢true e)
         go (Wrong x) e = absurd (false≢true e)
         go Taken e = refl

@@ -29,7 +29,7 @@ use Rattle.follower.specs.State.{isSet}
 use Rattle.follower.specs.Takes.{faultOf}
 use Rattle.follower.specs.Rules.{received, followOf}
 use Rattle.follower.proofs.Rules.{requested-each, asked-each, echoed-each}
-use Rattle.follower.proofs.Verdicts.{verdict-taken}
+use Rattle.follower.proofs.Findings.{finding-taken}
 use Rattle.leader.specs.declared.Leader.{Leader}
 use Rattle.leader.specs.declared.Led.{Led}
 use Rattle.leader.specs.declared.Asking.{Asking}
@@ -190,7 +190,7 @@ signs-ruled (by-hearing d x s h) = signs-pacing (delivers d) _ _
 signs-ruled (by-moving d x s h) = signs-moving (delivers d) _ _
 signs-ruled {w} (by-following d m s h g) =
     let n = w .node in
-    signs-following w d m (s .says) (verdict-taken (n .follower) (n .config .f) (epochOf n) (leaderNow n) (d .link) (d .bits) m h .1)
+    signs-following w d m (s .says) (finding-taken (n .follower) (n .config .f) (epochOf n) (leaderNow n) (d .link) (d .bits) m h .1)
 signs-ruled (by-observe d e r v g s h) = signs-leading (delivers d) _ _ _
 signs-ruled (by-report d e r xs g s h k) = signs-leading (delivers d) _ _ _
 

@@ -20,8 +20,8 @@ use Rattle.pacemaker.specs.Runs.{Next}
 use Rattle.pacemaker.proofs.Claims.{nothing-falls, tells-what-rose}
 use Rattle.follower.specs.declared.Raised.{Raised}
 use Rattle.follower.specs.declared.Raised.the-variants as raised
-use Rattle.follower.specs.declared.Verdict.the-variants.{Taken}
-use Rattle.follower.specs.Takes.{verdictOf}
+use Rattle.follower.specs.declared.Finding.the-variants.{Taken}
+use Rattle.follower.specs.Takes.{findingOf}
 use Rattle.leader.specs.declared.Led.{Led}
 use Rattle.node.specs.State.{epochOf, leaderNow, leads}
 use Rattle.node.specs.Event.{Whole, Delivery, Event, delivers, Effect, Step, refused, done}
@@ -39,7 +39,7 @@ pub data Turn (w : Whole) : Event → Effect → Type 0 where
   -- its move to a higher one
   moved : {e : Event} (p : Paced) → Next (w .node .config .n) (w .node .config .f) (w .node .pace) (p .pace) → epochOf (w .node) < p .pace .epoch → Turn w e (moving w p)
   -- the follower's rules
-  followed : (d : Delivery) (m : Message) → Says (w .node) d m → verdictOf (w .node .follower) (w .node .config .f) (epochOf (w .node)) (leaderNow (w .node)) (d .link) (d .bits) m ≡ Taken → Turn w (delivers d) (following w d m)
+  followed : (d : Delivery) (m : Message) → Says (w .node) d m → findingOf (w .node .follower) (w .node .config .f) (epochOf (w .node)) (leaderNow (w .node)) (d .link) (d .bits) m ≡ Taken → Turn w (delivers d) (following w d m)
   -- the leader's
   led : {e : Event} (l : Led) (signatures : List ℕ) → leads (w .node) ≡ true → Turn w e (leading w l signatures)
 

@@ -101,8 +101,8 @@ fits-set (x ∷ l) zero v f h (suc k) = h (suc k)
 fits-set (x ∷ l) (suc i) v f h zero = h zero
 fits-set (x ∷ l) (suc i) v f h (suc k) = fits-set l i v f (λ j. h (suc j)) k
 
-typed-round : (phase round rounding : ℕ) → round ≤ lastRound → TypedLeader (emptyRound phase round rounding)
-typed-round phase round rounding h =
+typed-round : (phase round «t_round» : ℕ) → round ≤ lastRound → TypedLeader (emptyRound phase round «t_round»)
+typed-round phase round «t_round» h =
     record { round = h; values = refl; value = fits-replicate members; observed = refl; reported = refl }
 
 -- a NEWEPOCH changes one place of what was heard

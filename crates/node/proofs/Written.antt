@@ -266,11 +266,11 @@ module _ (w : Whole) (t : TypedWhole w) (p : NodeGood (w .node)) where
     well-grace : leader.firesGrace all (w .node .config .f) own (leads (w .node)) ≡ true → Well (leading w (closing own) (w .signatures) .sent)
     unfolding leading closing
     well-grace h =
-        let armed = leads (w .node) && eqb (own .gracing) 1 in
+        let armed = leads (w .node) && eqb (own .«t_grace») 1 in
         let many = ltb (2 * w .node .config .f) (leader.observedBy all own) in
         let q = and-true (armed && eqb (own .phase) inGrace && many) (ltb 0 (own .round)) h in
         let r = and-true (armed && eqb (own .phase) inGrace) many (q .0) in
-        let k = and-true (leads (w .node)) (eqb (own .gracing) 1) (and-true armed (eqb (own .phase) inGrace) (r .0) .0) in
+        let k = and-true (leads (w .node)) (eqb (own .«t_grace») 1) (and-true armed (eqb (own .phase) inGrace) (r .0) .0) in
         let s = closing own .leader in
         let ready = tabled s (w .signatures) (k .0) refl refl (t .node .reported) refl (ltb-true 0 (own .round) (q .1)) (t .signatures) refl in
         let some : 1 ≤ length (order all (own .observed) (own .values)) = omega (arith, ltb-true (2 * w .node .config .f) (leader.observedBy all own) (r .1), length-order all (own .observed) (own .values) (ready .observed)) in

@@ -12,7 +12,7 @@ use Rattle.frame.specs.Decode.{messageIn}
 use Rattle.frame.specs.Check.{frameAnswer}
 use Rattle.pacemaker.specs.State.{isStarted}
 use Rattle.pacemaker.specs.Rules as pacemaker
-use Rattle.follower.specs.Takes.{verdictOf, answerOf}
+use Rattle.follower.specs.Takes.{findingOf, answerOf}
 use Rattle.follower.specs.Rules.{halts}
 use Rattle.leader.specs.Takes as leader
 use Rattle.node.specs.declared.Node.{Node}
@@ -56,7 +56,7 @@ unarmedAnswer time = cond (not (goodTime time)) Range Ignored
 
 -- 1: "a well-formed message whose rule's conditions fail"; 10: "conditions hold, check fails"
 unfoldable pub followerAnswer : Node → ℕ → ℕ → Message → Answer
-followerAnswer n j bits m = answerOf (verdictOf (n .follower) (n .config .f) (epochOf n) (leaderNow n) j bits m)
+followerAnswer n j bits m = answerOf (findingOf (n .follower) (n .config .f) (epochOf n) (leaderNow n) j bits m)
 
 unfoldable pub leaderAnswer : Node → ℕ → ℕ → Message → Answer
 leaderAnswer n j bits m =

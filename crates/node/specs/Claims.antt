@@ -231,8 +231,8 @@ found (fires u time) t flag = cond (sameTimer t u) 0 flag
 pub record Armed (w : Whole) (e : Event) (f : Effect) : Type 0 where
   pub resend : f .whole-after .node .pace .resend ≡ armed (f .timers .resend) (found e fired.Resend (w .node .pace .resend))
   pub progress : f .whole-after .node .pace .progress ≡ armed (f .timers .progress) (found e fired.Progress (w .node .pace .progress))
-  pub round : f .whole-after .node .leader .rounding ≡ armed (f .timers .round) (found e fired.Round (w .node .leader .rounding))
-  pub grace : f .whole-after .node .leader .gracing ≡ armed (f .timers .grace) (found e fired.Grace (w .node .leader .gracing))
+  pub round : f .whole-after .node .leader .«t_round» ≡ armed (f .timers .round) (found e fired.Round (w .node .leader .«t_round»))
+  pub grace : f .whole-after .node .leader .«t_grace» ≡ armed (f .timers .grace) (found e fired.Grace (w .node .leader .«t_grace»))
 
 abbrev pub FlagsAreTheTimers : Type 0
 FlagsAreTheTimers = (w : Whole) (e : Event) (f : Effect) → step w e ≡ done f → Armed w e f

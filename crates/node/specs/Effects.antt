@@ -79,10 +79,10 @@ abbrev pub pacedTimers : Paced → Timers
 pacedTimers p = record { resend = p .resend; progress = p .progress; round = Leave; grace = Leave }
 
 abbrev pub ledTimers : Led → Timers
-ledTimers l = record { resend = Leave; progress = Leave; round = l .rounding; grace = l .gracing }
+ledTimers l = record { resend = Leave; progress = Leave; round = l .«t_round»; grace = l .«t_grace» }
 
 abbrev pub movedTimers : Paced → Led → Timers
-movedTimers p l = record { resend = p .resend; progress = p .progress; round = l .rounding; grace = l .gracing }
+movedTimers p l = record { resend = p .resend; progress = p .progress; round = l .«t_round»; grace = l .«t_grace» }
 
 -- an event of the pacemaker alone
 unfoldable pub pacing : Whole → Paced → Effect

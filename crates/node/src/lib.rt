@@ -388,8 +388,8 @@ impl Node {
         let pace = self.pace;
         let follower = self.follower;
         let leader = config::leader_of(config.n, pace.epoch);
-        let verdict = follower.verdict(config, pace.epoch, leader, j, kind, body, bits);
-        verdict.answer()
+        let finding = follower.finding(config, pace.epoch, leader, j, kind, body, bits);
+        finding.answer()
     }
 
     fn leader_answer(self, j: u8, bits: u64, kind: u8, body: &[u8]) -> Answer
@@ -723,8 +723,8 @@ fn begun(config: Config, epoch: u32, signatures: &mut [u8]) -> Led
     Led {
         leader: Leader::none(),
         asking: Asking::Nothing,
-        rounding: Timer::Stop,
-        gracing: Timer::Stop,
+        t_round: Timer::Stop,
+        t_grace: Timer::Stop,
     }
 }
 
@@ -744,8 +744,8 @@ fn paced_timers(paced: Paced) -> Timers
 fn led_timers(led: Led) -> Timers
     ensures { λ r. ⌜ r ≡ ledTimers led ⌝ }
 {
-    let round = led.rounding;
-    let grace = led.gracing;
+    let round = led.t_round;
+    let grace = led.t_grace;
     Timers {
         resend: Timer::Leave,
         progress: Timer::Leave,
@@ -759,8 +759,8 @@ fn moved_timers(paced: Paced, led: Led) -> Timers
 {
     let resend = paced.resend;
     let progress = paced.progress;
-    let round = led.rounding;
-    let grace = led.gracing;
+    let round = led.t_round;
+    let grace = led.t_grace;
     Timers {
         resend,
         progress,

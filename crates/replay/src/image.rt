@@ -242,8 +242,8 @@ fn leader_at(s: &[u8], at: usize) -> Leader
         reported: bytes_at(s, reported),
         phase: s[phase],
         round: s[phase + 1],
-        rounding: s[phase + 2],
-        gracing: s[phase + 3],
+        t_round: s[phase + 2],
+        t_grace: s[phase + 3],
     }
 }
 
@@ -261,8 +261,8 @@ fn put_leader(s: &mut [u8], at: usize, leader: Leader)
     put_bytes(s, reported, &flags);
     wire::put_u8(s, phase, leader.phase);
     wire::put_u8(s, phase + 1, leader.round);
-    wire::put_u8(s, phase + 2, leader.rounding);
-    wire::put_u8(s, phase + 3, leader.gracing);
+    wire::put_u8(s, phase + 2, leader.t_round);
+    wire::put_u8(s, phase + 3, leader.t_grace);
 }
 
 fn values_at(s: &[u8], at: usize) -> [i64; Config::MEMBERS]
@@ -452,8 +452,8 @@ pub fn terms_at(s: &[u8], at: usize) -> Terms
     requires { ⌜ at + termsSize ≤ length (now s) ⌝ }
 {
     Terms {
-        observing: wire::get_u64(s, at),
-        sending: wire::get_u64(s, at + 8),
+        observation_fee: wire::get_u64(s, at),
+        sending_fee: wire::get_u64(s, at + 8),
         n: s[at + 16],
         f: s[at + 17],
     }
@@ -462,8 +462,8 @@ pub fn terms_at(s: &[u8], at: usize) -> Terms
 fn put_terms(s: &mut [u8], at: usize, terms: Terms)
     requires { ⌜ at + termsSize ≤ length (now s) ⌝ }
 {
-    wire::put_u64(s, at, terms.observing);
-    wire::put_u64(s, at + 8, terms.sending);
+    wire::put_u64(s, at, terms.observation_fee);
+    wire::put_u64(s, at + 8, terms.sending_fee);
     wire::put_u8(s, at + 16, terms.n);
     wire::put_u8(s, at + 17, terms.f);
 }

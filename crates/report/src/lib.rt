@@ -108,7 +108,7 @@ fn not_falling(body: &[u8], stride: usize) -> bool
     true
 }
 
-fn below(v: i64, w: i64) -> bool
+pub fn below(v: i64, w: i64) -> bool
     ensures { λ r. ⌜ r ≡ ltZ v w ⌝ }
 {
     v < w

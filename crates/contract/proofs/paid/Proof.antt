@@ -17,11 +17,11 @@ earn-requires c κs =
     let s = c .before .before .before in
     let a = s .args in
     let b = now (a .body) in
-    let fee = a .terms .observing in
+    let fee = a .terms .«observation_fee» in
     let listed = listedIn b in
     let many = listed-count b in
     let fees : length listed * fee ≡ countIn b * fee = ap (λ (k : ℕ). k * fee) many in
-    let left = fund-all (a .ledger) listed fee (omega (arith, s .pre .all .observing)) in
+    let left = fund-all (a .ledger) listed fee (omega (arith, s .pre .all .«observation_fee»)) in
     let e = ap (λ (l : Ledger). l .fund) (c .before .paid-all .ensures) in
     (omega (arith, c .place-of .ensures, s .pre .first, s .pre .last, s .pre .all .few), omega (arith, s .pre .costs))
 

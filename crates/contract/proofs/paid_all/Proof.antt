@@ -19,7 +19,7 @@ use Rattle.contract.proofs.paid_all.Statement.{statement}
 use Rattle.contract.proofs.paid_all.Tie as tie
 
 abbrev Inv-loop : tie.InvT-loop
-Inv-loop terms body m stride l₀ i₀ l i = (i ≤ countIn body) × ((countIn body - i) * terms .observing ≤ l .fund) × (earningAll l (drop i (listedIn body)) (terms .observing) ≡ earningAll l₀ (listedIn body) (terms .observing))
+Inv-loop terms body m stride l₀ i₀ l i = (i ≤ countIn body) × ((countIn body - i) * terms .«observation_fee» ≤ l .fund) × (earningAll l (drop i (listedIn body)) (terms .«observation_fee») ≡ earningAll l₀ (listedIn body) (terms .«observation_fee»))
 
 abbrev μ-loop : tie.MeasureT-loop
 μ-loop terms body m stride l₀ i₀ l i = m - i
@@ -47,7 +47,7 @@ count-of-requires : tie.Need-count-of-requires Inv-loop μ-loop
 count-of-requires c κs = let h = checked (c .before) .list .within in omega arith
 
 loop-holds : tie.Need-loop-holds Inv-loop μ-loop
-loop-holds c = let s = c .before .before .before in (omega arith, simp unary-clauses (s .pre .observing), refl)
+loop-holds c = let s = c .before .before .before in (omega arith, simp unary-clauses (s .pre .«observation_fee»), refl)
 
 member-at-requires : tie.Need-member-at-requires Inv-loop μ-loop
 member-at-requires c κs = rw (c .before .before .stride .ensures) (checked (c .before .before .before .before .before) .list .entry (c .before .loop .i) (inside c))
@@ -59,7 +59,7 @@ sub-l : tie.Need-sub-l Inv-loop μ-loop
 sub-l c =
     let at = c .before .before .before .before in
     let a = at .before .before .before .before .args in
-    let next = fees-next (countIn (now (a .body))) (at .loop .i) (a .terms .observing) (inside (c .before .before .before)) in
+    let next = fees-next (countIn (now (a .body))) (at .loop .i) (a .terms .«observation_fee») (inside (c .before .before .before)) in
     omega (arith, at .loop .inv .1)
 
 loop-again : tie.Need-loop-again Inv-loop μ-loop
@@ -70,7 +70,7 @@ loop-again c =
     let a = at .before .before .before .before .args in
     let b = now (a .body) in
     let i = at .loop .i in
-    let fee = a .terms .observing in
+    let fee = a .terms .«observation_fee» in
     let next = fees-next (countIn b) i fee (inside (p .before .before)) in
     let e = said (p .before) ∙ sym (List·getD-map (λ (o : Observation). o .member) (observationsIn (shapeOf 6 .entry) b) i noObservation) in
     let long = listed-count b in (

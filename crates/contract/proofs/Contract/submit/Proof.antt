@@ -26,7 +26,7 @@ accepted-requires c κs =
     let t = terms-facts (a .self .terms) (contract-facts (a .self) (p .good) .terms) in
     let costs : cost (a .self .terms) (countIn b) ≤ a .self .ledger .fund = rw (length-entries observationAt (shapeOf 6 .entry) (countIn b) (drop listPlace b)) at (p .range .report .fund) in
     record {
-      all = record { few = t .members .most; body-good = p .body-good; observing = omega arith };
+      all = record { few = t .members .most; body-good = p .body-good; «observation_fee» = omega arith };
       first = p .range .report .own .some;
       last = p .range .report .own .most;
       costs = costs;

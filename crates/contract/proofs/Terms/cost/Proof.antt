@@ -10,13 +10,13 @@ mul-result : tie.Need-mul-result
 mul-result c =
     let s = c .before in
     let t = terms-facts (s .args .self) (s .pre .0) in
-    omega (arith, mul-le-mul (s .pre .1) (t .observing))
+    omega (arith, mul-le-mul (s .pre .1) (t .«observation_fee»))
 
 add-result : tie.Need-add-result
 add-result c =
     let s = c .before .before in
     let t = terms-facts (s .args .self) (s .pre .0) in
-    omega (arith, mul-le-mul (s .pre .1) (t .observing))
+    omega (arith, mul-le-mul (s .pre .1) (t .«observation_fee»))
 
 pub cost-spec : {M : Type 1} → statement M
 cost-spec = tie.close (tie.spec mul-result add-result (λ c. search needs))

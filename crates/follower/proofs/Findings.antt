@@ -14,9 +14,9 @@ use Rattle.report.specs.declared.Fault.the-variants.{Nothing}
 use Rattle.report.specs.Faults.{codeOf}
 use Rattle.report.proofs.Faults.{done-nothing}
 use Rattle.follower.specs.declared.Follower.{Follower}
-use Rattle.follower.specs.declared.Verdict.the-variants.{Ignored, Wrong, Taken}
+use Rattle.follower.specs.declared.Finding.the-variants.{Ignored, Wrong, Taken}
 use Rattle.follower.specs.State.{isSet}
-use Rattle.follower.specs.Takes.{current, takes, faultOf, verdictOf}
+use Rattle.follower.specs.Takes.{current, takes, faultOf, findingOf}
 
 taken-if : (t d : Bool) (x : Fault) → cond t (cond d Taken (Wrong x)) Ignored ≡ Taken → (t ≡ true) × (d ≡ true)
 taken-if true true x e = (refl, refl)
@@ -24,16 +24,16 @@ taken-if true false x e = let z : _≡_ {A = ℕ} 0 1 = cc in absurd (omega arit
 taken-if false d x e = let z : _≡_ {A = ℕ} 0 1 = cc in absurd (omega arith)
 
 module _ (s : Follower) (f epoch leader j bits : ℕ) where
-  pub verdict-taken : (m : Message) → verdictOf s f epoch leader j bits m ≡ Taken → (takes s epoch leader j m ≡ true) × (faultOf f bits m ≡ Nothing)
-  unfolding verdictOf
-  verdict-taken m e =
+  pub finding-taken : (m : Message) → findingOf s f epoch leader j bits m ≡ Taken → (takes s epoch leader j m ≡ true) × (faultOf f bits m ≡ Nothing)
+  unfolding findingOf
+  finding-taken m e =
       let p = taken-if (takes s epoch leader j m) (isDone (codeOf (faultOf f bits m))) (faultOf f bits m) e in
       (p .0, done-nothing (faultOf f bits m) (p .1))
 
   -- "none from j yet"
-  pub taken-unmarked : (a : Attested) → verdictOf s f epoch leader j bits (finalEcho a) ≡ Taken → marked (s .marks) (j - 1) ≡ false
+  pub taken-unmarked : (a : Attested) → findingOf s f epoch leader j bits (finalEcho a) ≡ Taken → marked (s .marks) (j - 1) ≡ false
   taken-unmarked a e =
       let here = current s epoch (a .epoch) && eqb (a .round) (s .round) in
       let new = not (marked (s .marks) (j - 1)) in
-      let p = and-true (here && new) (not (isSet (s .completed))) (verdict-taken (finalEcho a) e .0) in
+      let p = and-true (here && new) (not (isSet (s .completed))) (finding-taken (finalEcho a) e .0) in
       not-true (marked (s .marks) (j - 1)) (and-true here new (p .0) .1)

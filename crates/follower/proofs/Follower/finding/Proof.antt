@@ -1,4 +1,4 @@
--- `Follower::verdict` meets its contract: what `takes` and `fault_of` promise picks the verdict.
+-- `Follower::finding` meets its contract: what `takes` and `fault_of` promise picks the finding.
 use mathlib.Core.Bool.{true}
 use mathlib.Core.Path.{_≡_, sym, ap, _∙_}
 use borrow.Author.Tests.{not-true, not-false}
@@ -6,13 +6,13 @@ use denote.Ref.{now}
 use Rattle.config.specs.Codes.{isDone}
 use Rattle.frame.specs.Decode.{messageOf}
 use Rattle.report.specs.Faults.{codeOf}
-use Rattle.follower.specs.Takes.{takes, faultOf, verdictOf}
+use Rattle.follower.specs.Takes.{takes, faultOf, findingOf}
 use borrow.Author.Needs.{needs}
-use Rattle.follower.proofs.Follower.verdict.Statement.{statement}
-use Rattle.follower.proofs.Follower.verdict.Tie as tie
+use Rattle.follower.proofs.Follower.finding.Statement.{statement}
+use Rattle.follower.proofs.Follower.finding.Tie as tie
 
 returns : tie.Need-returns
-unfolding verdictOf
+unfolding findingOf
 returns c = rw (sym (c .before .takes .ensures) ∙ not-true _ (c .if1 .taken))
 
 -- its conditions hold
@@ -24,15 +24,15 @@ fine : (c : tie.After-is-done) → let a = c .before .before .before .before .be
 fine c = sym (c .is-done .ensures ∙ ap isDone (c .before .code .ensures ∙ ap codeOf (c .before .before .fault-of .ensures)))
 
 returns-2 : tie.Need-returns-2
-unfolding verdictOf
+unfolding findingOf
 returns-2 c = rw (held (c .before .before .before .before), fine (c .before) ∙ c .if2 .taken)
 
 returns-3 : tie.Need-returns-3
-unfolding verdictOf
+unfolding findingOf
 returns-3 c = rw (held (c .before .before .before .before), fine (c .before) ∙ c .if2 .left, c .before .before .before .fault-of .ensures)
 
-pub verdict-spec : {M : Type 1} → statement M
-verdict-spec =
+pub finding-spec : {M : Type 1} → statement M
+finding-spec =
     tie.close
     (tie.spec
     (λ c κs. search needs)
