@@ -1,11 +1,16 @@
 // The configuration of a feed, and what every other crate asks about it: limits, codes, times, commits, leaders.
 // Tests are joined by `&`: none of them has to wait for another, and the prover reads the whole as one value.
+mod codes;
+mod schedule;
+mod times;
+
+pub use times::between;
+pub use times::good_time;
+pub use times::paired;
 ghost use mathlib.Core.Path.{_≡_};
-ghost use Prim.Native.Nat.{_-_, _<_, _≤_};
-ghost use lib.ListN.{take};
-ghost use Rattle.config.specs.Limits.{mostStages, limits};
-ghost use Rattle.config.specs.Codes.{numberOf, isDone, making};
-ghost use Rattle.config.specs.Bounds.{configOf, goodMembers, goodOwn, noneEmpty, sum, goodSchedule, goodRates, goodFeed, goodConfig, goodTime, paired, goodCommit, noCommit};
+ghost use Prim.Native.Nat.{_<_};
+ghost use Rattle.config.specs.Limits.{limits};
+ghost use Rattle.config.specs.Bounds.{configOf, goodMembers, goodOwn, goodRates, goodFeed, goodConfig};
 ghost use Rattle.config.specs.Leader.{leaderOf};
 
 // What the members of one feed have agreed on, and which of them this node is.
@@ -224,7 +229,7 @@ impl Config {
         let schedule = self.schedule;
         good_members(self.n, self.f)
             & self.good_rates()
-            & good_schedule(self.n, self.f, self.stages, schedule)
+            & schedule::good_schedule(self.n, self.f, self.stages, schedule)
     }
 
     // Whether r_max, alpha, Delta_C and Delta_stage are in range.
@@ -234,7 +239,7 @@ impl Config {
         (1 <= self.r_max)
             & (self.r_max <= Config::MOST_ROUNDS)
             & (self.alpha <= Config::MOST_ALPHA)
-            & good_time(self.delta_c)
+            & times::good_time(self.delta_c)
             & (self.delta_stage <= Config::LONGEST_STAGE)
     }
 }
@@ -253,86 +258,6 @@ pub fn good_own(n: u8, own: u8) -> bool
     (1 <= own) & (own <= n)
 }
 
-// Whether the first `count` places are a schedule for n members of which f may be faulty.
-fn good_schedule(n: u8, f: u8, count: u8, schedule: [u8; Config::STAGES]) -> bool
-    ensures { λ r. ⌜ r ≡ goodSchedule n f count schedule ⌝ }
-{
-    let stages = count as usize;
-    if Config::STAGES < stages {
-        return false;
-    }
-    let senders = sum_of(schedule, stages);
-    (1 <= stages)
-        & none_empty(schedule, stages)
-        & ((f as usize) < senders)
-        & (senders <= n as usize)
-}
-
-// Whether each of the first `stages` stages has a member.
-fn none_empty(schedule: [u8; Config::STAGES], stages: usize) -> bool
-    requires { ⌜ stages ≤ mostStages ⌝ }
-    ensures { λ r. ⌜ r ≡ noneEmpty (take stages schedule) ⌝ }
-{
-    let mut some = true;
-    let mut k: usize = 0;
-    while k < stages {
-        some = some & (1 <= schedule[k]);
-        k += 1;
-    }
-    some
-}
-
-// How many members the first `stages` stages have together.
-fn sum_of(schedule: [u8; Config::STAGES], stages: usize) -> usize
-    requires { ⌜ stages ≤ mostStages ⌝ }
-    ensures { λ r. ⌜ r ≡ sum (take stages schedule) ⌝ }
-{
-    let mut total: usize = 0;
-    let mut k: usize = 0;
-    while k < stages {
-        total += schedule[k] as usize;
-        k += 1;
-    }
-    total
-}
-
-// Whether a clock can show this time.
-pub fn good_time(time: u64) -> bool
-    ensures { λ r. ⌜ r ≡ goodTime time ⌝ }
-{
-    time <= Config::LAST_TIME
-}
-
-// How many milliseconds lie between two times; none where the second is behind the first.
-pub fn between(from: u64, to: u64) -> u64
-    ensures { λ r. ⌜ r ≡ to - from ⌝ }
-{
-    if from < to { to - from } else { 0 }
-}
-
-// Whether epoch and round are both 0 or neither.
-pub fn paired(epoch: u32, round: u8) -> bool
-    ensures { λ r. ⌜ r ≡ paired epoch round ⌝ }
-{
-    (epoch == 0) == (round == 0)
-}
-
-impl Commit {
-    // Whether a contract can have this commit.
-    pub fn good(self) -> bool
-        ensures { λ r. ⌜ r ≡ goodCommit self ⌝ }
-    {
-        paired(self.epoch, self.round) & good_time(self.time)
-    }
-
-    // Whether nothing has been committed.
-    pub fn none(self) -> bool
-        ensures { λ r. ⌜ r ≡ noCommit self ⌝ }
-    {
-        (self.epoch == 0) & (self.round == 0)
-    }
-}
-
 // The member that leads an epoch of a feed with n members; 0 for epoch 0, which has no leader.
 pub fn leader_of(n: u8, epoch: u32) -> u8
     requires { ⌜ 0 < n ⌝ }
@@ -342,49 +267,4 @@ pub fn leader_of(n: u8, epoch: u32) -> u8
         return 0;
     }
     (epoch % (n as u32)) as u8 + 1
-}
-
-impl Answer {
-    // The number that document 01 gives the answer.
-    pub fn number(self) -> u8
-        ensures { λ r. ⌜ r ≡ numberOf self ⌝ }
-    {
-        match self {
-            Answer::Done => 0,
-            Answer::Ignored => 1,
-            Answer::State => 2,
-            Answer::Room => 3,
-            Answer::Short => 4,
-            Answer::Version => 5,
-            Answer::Kind => 6,
-            Answer::Sender => 7,
-            Answer::Length => 8,
-            Answer::Range => 9,
-            Answer::Proof => 10,
-            Answer::End => 11,
-            Answer::Config => 12,
-            Answer::Old => 13,
-            Answer::Few => 14,
-            Answer::Order => 15,
-            Answer::Twice => 16,
-            Answer::Signers => 17,
-            Answer::Funds => 18,
-            Answer::Similar => 19,
-            Answer::Queue => 20,
-        }
-    }
-
-    // What making a fresh state answers: CONFIG where what it is made of is out of range.
-    pub fn of_making(good: bool) -> Answer
-        ensures { λ r. ⌜ r ≡ making good ⌝ }
-    {
-        if good { Answer::Done } else { Answer::Config }
-    }
-
-    // Whether the rule ran: nothing else changes anything.
-    pub fn is_done(self) -> bool
-        ensures { λ r. ⌜ r ≡ isDone self ⌝ }
-    {
-        self.number() == 0
-    }
 }

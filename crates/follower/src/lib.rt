@@ -1,24 +1,24 @@
 // The follower of a reporting round: which of the leader's requests and which reports it takes, and what it does then. It writes the
 // kept buffer and no other byte, and answers what is to be sent and what is raised.
-use config::Answer;
+mod handing;
+mod taking;
+
 use config::Commit;
 use config::Config;
+pub use handing::handed_of;
+pub use handing::handed_part;
 use report::Fault;
 ghost use mathlib.Core.Path.{_≡_};
-ghost use mathlib.Core.Bool.{true, cond};
-ghost use Prim.Native.Nat.{ℕ, _≤_};
+ghost use mathlib.Core.Bool.{cond};
+ghost use Prim.Native.Nat.{_≤_};
 ghost use lib.ListN.{length};
 ghost use Rattle.config.specs.Limits.{members, keptSize};
 ghost use Rattle.config.specs.declared.Answer.the-variants.{Done};
-ghost use Rattle.frame.specs.Message.{observeReq, reportReq, final, finalEcho};
-ghost use Rattle.frame.specs.Decode.{epochIn, roundIn, signedIn, attestedIn, messageOf};
+ghost use Rattle.frame.specs.Decode.{messageOf};
 ghost use Rattle.frame.specs.Check.{bodyAnswer};
-ghost use Rattle.report.specs.Whole.{WholeReport};
 ghost use Rattle.report.specs.Kept.{keeping};
 ghost use Rattle.follower.specs.State.{isSet, goodFollower, inRound};
-ghost use Rattle.follower.specs.Takes.{relationOf, current, takes, faultOf, findingOf, answerOf};
 ghost use Rattle.follower.specs.Rules.{stays, requested, halts, asked, received, echoed, followOf, keptOf};
-ghost use Rattle.follower.specs.Handed.{handedOf, handedPart};
 
 // What a follower holds of the round it is in.
 #[repr(C)]
@@ -81,19 +81,6 @@ pub struct Handed {
     pub len: usize,
 }
 
-impl Finding {
-    // The answer that a finding is given.
-    pub fn answer(self) -> Answer
-        ensures { λ r. ⌜ r ≡ answerOf self ⌝ }
-    {
-        match self {
-            Finding::Ignored => Answer::Ignored,
-            Finding::Wrong(_) => Answer::Proof,
-            Finding::Taken => Answer::Done,
-        }
-    }
-}
-
 impl Follower {
     // In a round, with nothing marked, signed, completed or kept.
     pub fn in_round(live: u8, round: u8) -> Self
@@ -119,100 +106,6 @@ impl Follower {
             & (self.completed <= 1)
             & (self.kept <= 1)
             & quorum::flags(&marks)
-    }
-
-    // What is said of a message that came from member j, in an epoch led by `leader`.
-    pub fn finding(
-        self,
-        config: Config,
-        epoch: u32,
-        leader: u8,
-        j: u8,
-        kind: u8,
-        body: &[u8],
-        bits: u64,
-    ) -> Finding
-        requires { ⌜ (1 ≤ kind) × (kind ≤ 7) × (bodyAnswer (config .n) kind (now body) ≡ Done) × (1 ≤ j) × (j ≤ members) ⌝ }
-        ensures { λ r. ⌜ r ≡ findingOf self (config .f) epoch leader j bits (messageOf kind (now (body .entry))) ⌝ }
-    {
-        if !self.takes(config.n, epoch, leader, j, kind, body) {
-            return Finding::Ignored;
-        }
-        let fault = fault_of(config.n, config.f, kind, body, bits);
-        if fault.code().is_done() {
-            return Finding::Taken;
-        }
-        Finding::Wrong(fault)
-    }
-
-    // Whether the conditions of the message's rule hold.
-    fn takes(self, n: u8, epoch: u32, leader: u8, j: u8, kind: u8, body: &[u8]) -> bool
-        requires { ⌜ (1 ≤ kind) × (kind ≤ 7) × (bodyAnswer n kind (now body) ≡ Done) × (1 ≤ j) × (j ≤ members) ⌝ }
-        ensures { λ r. ⌜ r ≡ takes self epoch leader j (messageOf kind (now (body .entry))) ⌝ }
-    {
-        match kind {
-            2 => self.takes_request(epoch, leader, j, body),
-            4 => self.takes_list(epoch, leader, j, body),
-            6 => self.takes_final(epoch, leader, j, body),
-            7 => self.takes_echo(epoch, j, body),
-            _ => false,
-        }
-    }
-
-    // Whether a message of this epoch is current: an instance runs, in that epoch.
-    fn current(self, epoch: u32, e: u32) -> bool
-        ensures { λ r. ⌜ r ≡ current self epoch e ⌝ }
-    {
-        (self.live == 1) & (e == epoch)
-    }
-
-    fn takes_request(self, epoch: u32, leader: u8, j: u8, body: &[u8]) -> bool
-        requires { ⌜ 5 ≤ length (now body) ⌝ }
-        ensures { λ r. ⌜ r ≡ takes self epoch leader j (observeReq (epochIn (now (body .entry))) (roundIn (now (body .entry)))) ⌝ }
-    {
-        let relation = relation(frame::round_of(body), self.round);
-        match relation {
-            0..=1 => false,
-            _ => self.current(epoch, frame::epoch_of(body)) & (j == leader),
-        }
-    }
-
-    fn takes_list(self, epoch: u32, leader: u8, j: u8, body: &[u8]) -> bool
-        requires { ⌜ 5 ≤ length (now body) ⌝ }
-        ensures { λ r. ⌜ r ≡ takes self epoch leader j (reportReq (epochIn (now (body .entry))) (roundIn (now (body .entry))) (signedIn (now (body .entry)))) ⌝ }
-    {
-        let relation = relation(frame::round_of(body), self.round);
-        match relation {
-            1 => self.current(epoch, frame::epoch_of(body))
-                & (j == leader)
-                & (self.signed != 1)
-                & (self.completed != 1),
-            _ => false,
-        }
-    }
-
-    fn takes_final(self, epoch: u32, leader: u8, j: u8, body: &[u8]) -> bool
-        requires { ⌜ 5 ≤ length (now body) ⌝ }
-        ensures { λ r. ⌜ r ≡ takes self epoch leader j (final (attestedIn (now (body .entry)))) ⌝ }
-    {
-        let relation = relation(frame::round_of(body), self.round);
-        match relation {
-            1 => self.current(epoch, frame::epoch_of(body)) & (j == leader) & (self.kept != 1),
-            _ => false,
-        }
-    }
-
-    fn takes_echo(self, epoch: u32, j: u8, body: &[u8]) -> bool
-        requires { ⌜ (5 ≤ length (now body)) × (1 ≤ j) × (j ≤ members) ⌝ }
-        ensures { λ r. ⌜ ((leader : ℕ) → r ≡ takes self epoch leader j (finalEcho (attestedIn (now (body .entry))))) ⌝ }
-    {
-        let place = j as usize - 1;
-        let mark = self.marks[place];
-        let relation = relation(frame::round_of(body), self.round);
-        match relation {
-            1 => self.current(epoch, frame::epoch_of(body)) & (mark != 1) & (self.completed != 1),
-            _ => false,
-        }
     }
 
     // Whether a request halts the instance: whoever follows it raises changeleader.
@@ -358,34 +251,6 @@ impl Follower {
     }
 }
 
-// What is wrong with a message that is taken.
-fn fault_of(n: u8, f: u8, kind: u8, body: &[u8], bits: u64) -> Fault
-    requires { ⌜ (1 ≤ kind) × (kind ≤ 7) × (bodyAnswer n kind (now body) ≡ Done) ⌝ }
-    ensures { λ r. ⌜ r ≡ faultOf f bits (messageOf kind (now (body .entry))) ⌝ }
-{
-    match kind {
-        4 => report::list_fault(body, frame::stride(4), f).or(report::bits_fault(
-            bits,
-            frame::count_of(body),
-        )),
-        6..=7 => report::attested_fault(body, f, bits),
-        _ => Fault::Nothing,
-    }
-}
-
-// How one round stands to another: 0 below it, 1 the same, 2 above it.
-fn relation(round: u8, own: u8) -> u8
-    ensures { λ r. ⌜ r ≡ relationOf round own ⌝ }
-{
-    if round < own {
-        return 0;
-    }
-    if round == own {
-        return 1;
-    }
-    2
-}
-
 // Keeps a body, unless a report was kept before.
 fn keep_unless(flag: u8, kept: &mut [u8], body: &[u8])
     requires { ⌜ (length (now body) ≤ keptSize) × (keptSize ≤ length (now kept)) ⌝ }
@@ -405,43 +270,4 @@ fn echo_unless(kept: u8) -> Reply
     } else {
         Reply::Echo
     }
-}
-
-// Where the report lies that is handed out, if one is: the flag says whether one was kept as the call began.
-pub fn handed_of(out: bool, flag: u8, kept: &[u8], body: &[u8]) -> Handed
-    requires { ⌜ (out ≡ true → WholeReport (cond (isSet flag) (now kept) (now body))) ⌝ }
-    ensures { λ r. ⌜ r ≡ handedOf out (isSet flag) (now (kept .entry)) (now (body .entry)) ⌝ }
-{
-    let held = flag == 1;
-    if !out {
-        return Handed {
-            held,
-            start: 0,
-            len: 0,
-        };
-    }
-    if held {
-        return Handed {
-            held,
-            start: 0,
-            len: frame::final_length(kept),
-        };
-    }
-    Handed {
-        held,
-        start: 0,
-        len: frame::final_length(body),
-    }
-}
-
-// The report that is handed out, as a part of the kept buffer or of the arriving frame; an empty part where none is.
-pub fn handed_part<'a>(handed: Handed, kept: &'a [u8], frame: &'a [u8]) -> &'a [u8]
-    ensures { λ r. ⌜ now r ≡ handedPart handed (now (kept .entry)) (now (frame .entry)) ⌝ }
-{
-    let start = handed.start;
-    let len = handed.len;
-    if handed.held {
-        return report::part_of(kept, start, len);
-    }
-    report::part_of(frame, start, len)
 }

@@ -14,6 +14,7 @@ use Rattle.config.specs.declared.Timer.the-variants.{Leave}
 use Rattle.wire.specs.Overlay.{over}
 use Rattle.frame.specs.Message.{Message}
 use Rattle.outbox.specs.Written.{ownFrame}
+use Rattle.follower.specs.declared.Handed.{Handed}
 use Rattle.node.specs.declared.Node.{Node}
 use Rattle.node.specs.declared.Timers.{Timers}
 use Rattle.node.specs.declared.Made.{Made}
@@ -65,12 +66,16 @@ noTimers = record { resend = Leave; progress = Leave; round = Leave; grace = Lea
 abbrev pub refusing : Answer → Node → Outcome
 refusing a n = record { answer = a; node = n; written = 0; timers = noTimers; handed = nothingHanded n }
 
+-- and a rule that ran and left this node
+abbrev pub doing : Node → ℕ → Timers → Handed → Outcome
+doing n written timers handed = record { answer = answer.Done; node = n; written = written; timers = timers; handed = handed }
+
 -- what a rule answers, and the frames it sends over the outbox from the position on
 unfoldable pub settled : Effect → List ℕ → ℕ → Out
 settled f outbox at =
     let n = f .whole-after .node in
     let frames = framesOf (n .config) (f .sent) in
-    out (record { answer = answer.Done; node = n; written = length frames; timers = f .timers; handed = f .handed })
+    out (doing n (length frames) (f .timers) (f .handed))
     (over outbox at frames) (f .whole-after .kept) (f .whole-after .signatures)
 
 -- ROOM, of the buffers that are lent

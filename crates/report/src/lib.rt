@@ -108,6 +108,7 @@ fn not_falling(body: &[u8], stride: usize) -> bool
     true
 }
 
+// Whether one value is below another.
 pub fn below(v: i64, w: i64) -> bool
     ensures { λ r. ⌜ r ≡ ltZ v w ⌝ }
 {

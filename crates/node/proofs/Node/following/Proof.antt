@@ -86,8 +86,8 @@ write-reply-requires c κs =
     (h .body-good, answers, reply-fits (a .self .config .n) kind body (f .follow .result .reply) _ _ (most s) (h .body-good) answers (omega (arith, first (c .before .before .before), s .pre .1)))
 
 -- only one of the two is written
-add-t33 : tie.Need-add-t33
-add-t33 c =
+add-doing : tie.Need-add-doing
+add-doing c =
     let second = c .before .before .before .before .before in
     let first = second .before .before .before .before in
     let f = first .before .before .before .before .before .before .before .before in
@@ -101,13 +101,13 @@ add-t33 c =
 
 returns : tie.Need-returns
 returns c bits signatures =
-    let second = c .before .before .before .before .before .before in
+    let second = c .before .before .before .before .before .before .before in
     let first = second .before .before .before .before in
     let f = first .before .before .before .before .before .before .before .before in
     let b = f .before .before in
     let s = f .before .before .before .before .before .before .before .before .before in
     let a = s .args in
-    rw (c .paced-timers .ensures)
+    rw (c .doing .ensures, c .before .paced-timers .ensures)
     (following-settles (whole (a .self) (now (a .kept)) signatures) (delivery (a .link) (a .time) (a .observation) (a .commit) bits (now (a .frame))) (now (a .outbox)) (a .at)
     (followed f)
     (first .before .before .before .raising .ensures)
@@ -127,7 +127,8 @@ following-spec =
     (λ c κs. announced-fits _ _ (c .before .before .before .before .before .before .before .before .before .before .before .before .before .before .before .before .pre .1))
     add-write-reply
     write-reply-requires
-    add-t33
+    add-doing
+    (λ c κs. search needs)
     (λ c κs. search needs)
     (λ c. search needs)
     (λ c. search needs)

@@ -18,13 +18,14 @@ write-asking-requires c κs =
 returns : tie.Need-returns
 unfolding leading
 returns c kept before =
-    rw (c .before .led-timers .ensures, c .nothing-handed .ensures) (settles _ _ kept (now (c .before .before .before .before .before .before .before .before .before .before .before .before .before .args .signatures)) (c .before .before .before .before .before .before .before .write-asking .ensures))
+    rw (c .doing .ensures, c .before .before .led-timers .ensures, c .before .nothing-handed .ensures) (settles _ _ kept (now (c .before .before .before .before .before .before .before .before .before .before .before .before .before .before .args .signatures)) (c .before .before .before .before .before .before .before .before .write-asking .ensures))
 
 pub leading-spec : {M : Type 1} → statement M
 leading-spec =
     tie.close
     (tie.spec
     write-asking-requires
+    (λ c κs. search needs)
     (λ c κs. search needs)
     (λ c κs. search needs)
     (λ c. search needs)

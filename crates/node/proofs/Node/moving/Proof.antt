@@ -42,19 +42,19 @@ second c =
     let a = b .before .before .before .before .before .before .before .before .before .before .before .args in
     rw (c .write-asking .ensures .long, b .begun .ensures .0) (begun-long (a .self .config) (a .paced .pace .epoch) _)
 
-add-t26 : tie.Need-add-t26
-add-t26 c = omega (arith, first (c .before .before .before .before .before .before .before .before), second (c .before .before .before))
+add-doing : tie.Need-add-doing
+add-doing c = omega (arith, first (c .before .before .before .before .before .before .before .before), second (c .before .before .before))
 
 same-length-2 : tie.Need-same-length-2
-same-length-2 c = omega (arith, c .before .before .before .before .before .before .before .before .before .before .before .before .before .before .before .before .before .before .before)
+same-length-2 c = omega (arith, c .before .before .before .before .before .before .before .before .before .before .before .before .before .before .before .before .before .before .before .before)
 
 returns : tie.Need-returns
 returns c =
-    let second = c .before .before .before .before .before in
+    let second = c .before .before .before .before .before .before in
     let first = second .before .before .before .before .before in
     let b = first .before .before .before .before .before in
     let a = b .before .before .before .before .before .before .before .before .before .before .before .args in
-    rw (c .before .before .in-round .ensures, c .before .moved-timers .ensures, c .nothing-handed .ensures)
+    rw (c .doing .ensures, c .before .before .before .in-round .ensures, c .before .before .moved-timers .ensures, c .before .nothing-handed .ensures)
     (moving-settles (whole (a .self) (now (a .kept)) (now (a .signatures))) (a .paced) (now (a .outbox)) (a .at) (b .begun .ensures .0) (b .before .before .before .before .clear .ensures) (b .begun .ensures .1) (first .write-announced .ensures) (second .write-asking .ensures))
 
 pub moving-spec : {M : Type 1} → statement M
@@ -67,7 +67,8 @@ moving-spec =
     add-write-asking
     write-asking-requires
     (λ c κs. search needs)
-    add-t26
+    add-doing
+    (λ c κs. search needs)
     (λ c κs. search needs)
     (λ c κs. search needs)
     (λ c. search needs)

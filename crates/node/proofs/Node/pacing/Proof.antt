@@ -8,12 +8,13 @@ use Rattle.node.proofs.Node.pacing.Tie as tie
 returns : tie.Need-returns
 unfolding pacing
 returns c kept signatures =
-    rw (c .before .paced-timers .ensures, c .nothing-handed .ensures) (settles _ _ kept signatures (c .before .before .before .before .before .before .before .write-announced .ensures))
+    rw (c .doing .ensures, c .before .before .paced-timers .ensures, c .before .nothing-handed .ensures) (settles _ _ kept signatures (c .before .before .before .before .before .before .before .before .write-announced .ensures))
 
 pub pacing-spec : {M : Type 1} → statement M
 pacing-spec =
     tie.close
     (tie.spec
+    (λ c κs. search needs)
     (λ c κs. search needs)
     (λ c κs. search needs)
     (λ c κs. search needs)

@@ -1,0 +1,169 @@
+-- `frame::check` meets its contract: past each stage of the specs the answer is the next stage's, and each return cites the one before it.
+use mathlib.Core.Bool.{Bool, not, cond, _||_}
+use mathlib.Core.List.{List}
+use mathlib.Core.Path.{_≡_, sym, ap, ap₂, _∙_}
+use Prim.Native.Nat.{ℕ, _+_, _-_}
+use native.Mathlib.Omega.{arith}
+use borrow.Author.Tests.{le-leb, lt-leb, eq-eqb, ne-eqb}
+use denote.Ref.{now}
+use lib.Dec.{eqb}
+use lib.ListN.{length, take, drop}
+use Rattle.config.specs.declared.Answer.{Answer}
+use Rattle.config.specs.declared.Answer.the-variants.{Version}
+use Rattle.frame.specs.Table.{trailerLength}
+use Rattle.frame.specs.Decode.{trailerPlace, kindIn, lengthIn}
+use Rattle.frame.specs.Check.{frameAnswer, afterShort, afterVersion, afterKind, afterSender, bodyAnswer}
+use Rattle.frame.proofs.Checks.{start-short, StartsAt, start-at}
+use borrow.Author.Needs.{needs}
+use Rattle.frame.proofs.checking.check.Statement.{statement}
+use Rattle.frame.proofs.checking.check.Tie as tie
+
+-- ---- where the body's start was found, seen from each place behind it
+
+abbrev numbers : tie.After-get-u64 → tie.After-start
+numbers c = c .before .before .before .before
+
+abbrev versioned : tie.Else1 → tie.After-start
+versioned c = numbers (c .before)
+
+abbrev kinded : tie.Else3 → tie.After-start
+kinded c = versioned (c .before .before .before)
+
+abbrev sent : tie.Else4 → tie.After-start
+sent c = kinded (c .before .before)
+
+abbrev entry : tie.After-start → tie.Start
+entry c = c .before .before .before .before
+
+abbrev frame : tie.After-start → List ℕ
+frame c = now (entry c .args .frame)
+
+-- ---- what the answer is past each stage
+
+abbrev answer : tie.After-start → Answer
+answer c = frameAnswer (frame c) (entry c .args .n) (entry c .args .number) (entry c .args .link)
+
+starts : (c : tie.After-start) → StartsAt (frame c) (c .start .given .0 .0)
+starts c = start-at _ _ (sym (c .start .given .1) ∙ c .before .before .body-start .ensures)
+
+not-short : (c : tie.After-start) → answer c ≡ afterShort (frame c) (entry c .args .n) (entry c .args .number) (entry c .args .link)
+unfolding frameAnswer
+not-short c = rw (starts c .long)
+
+abbrev past-version : tie.After-start → Answer
+past-version c = afterVersion (frame c) (entry c .args .n) (entry c .args .link)
+
+-- the test is that of `afterShort`, of what the callees promise
+versions : (c : tie.After-get-u64) → answer (numbers c) ≡ cond (not (eqb (c .before .before .get-u16 .result) (c .before .version .result)) || not (eqb (c .get-u64 .result) (entry (numbers c) .args .number))) Version (past-version (numbers c))
+unfolding afterShort
+versions c =
+    let version = ap₂ (λ (x y : ℕ). not (eqb x y)) (c .before .before .get-u16 .ensures) (c .before .version .ensures) in
+    let number = ap (λ (x : ℕ). not (eqb x (entry (numbers c) .args .number))) (c .get-u64 .ensures) in
+    not-short (numbers c) ∙ ap (λ (t : Bool). cond t Version (past-version (numbers c))) (sym (ap₂ _||_ version number))
+
+not-version : (c : tie.Else1) → answer (versioned c) ≡ past-version (versioned c)
+not-version c = rw (c .if1 .left) at (versions (c .before))
+
+not-kind : (c : tie.Else3) → answer (kinded c) ≡ afterKind (frame (kinded c)) (entry (kinded c) .args .n) (entry (kinded c) .args .link)
+unfolding afterVersion
+not-kind c =
+    let kind = kindIn (frame (kinded c)) in
+    not-version (c .before .before .before) ∙ rw (le-leb 1 kind (omega arith), le-leb kind 7 (c .if3 .left))
+
+not-sender : (c : tie.Else4) → answer (sent c) ≡ afterSender (frame (sent c)) (entry (sent c) .args .n)
+unfolding afterKind
+not-sender c = not-kind (c .before .before) ∙ rw (c .if4 .left)
+
+-- ---- the needs
+
+returns : tie.Need-returns
+unfolding frameAnswer
+returns c = rw (start-short (now (c .before .before .before .before .args .frame)) (sym (c .enum-told .given .1) ∙ c .before .before .body-start .ensures))
+
+sub-end : tie.Need-sub-end
+sub-end c = omega (arith, starts (c .before) .trailer)
+
+get-u16-requires : tie.Need-get-u16-requires
+get-u16-requires c κs = omega (arith, starts (c .before) .trailer)
+
+get-u64-requires : tie.Need-get-u64-requires
+get-u64-requires c κs = omega (arith, starts (c .before .before .before) .trailer)
+
+returns-2 : tie.Need-returns-2
+returns-2 c = sym (rw (c .if1 .taken) at (versions (c .before)))
+
+shared-slice-read-kind : tie.Need-shared-slice-read-kind
+shared-slice-read-kind c = omega (arith, starts (versioned (c .before)) .trailer)
+
+returns-3 : tie.Need-returns-3
+unfolding afterVersion
+returns-3 c = sym (not-version (c .before .before) ∙ rw (lt-leb 1 (kindIn (frame (versioned (c .before .before)))) (c .if2 .taken)))
+
+returns-4 : tie.Need-returns-4
+unfolding afterVersion
+returns-4 c =
+    let kind = kindIn (frame (versioned (c .before .before .before))) in
+    sym (not-version (c .before .before .before) ∙ rw (le-leb 1 kind (omega arith), lt-leb kind 7 (c .if3 .taken)))
+
+shared-slice-read-sender : tie.Need-shared-slice-read-sender
+shared-slice-read-sender c = omega (arith, starts (kinded (c .before)) .trailer)
+
+returns-5 : tie.Need-returns-5
+unfolding afterKind
+returns-5 c = sym (not-kind (c .before .before) ∙ rw (c .if4 .taken))
+
+returns-6 : tie.Need-returns-6
+unfolding afterSender
+returns-6 c =
+    let f = frame (sent (c .before)) in
+    let s = starts (sent (c .before)) in
+    sym (not-sender (c .before) ∙ rw (ne-eqb (lengthIn f + trailerLength) (length f) (λ e. c .if5 .taken (omega arith))))
+
+sub-check-body : tie.Need-sub-check-body
+sub-check-body c = omega (arith, starts (sent (c .before)) .place, starts (sent (c .before)) .trailer)
+
+part-check-body-start : tie.Need-part-check-body-start
+part-check-body-start c = omega (arith, starts (sent (c .before)) .place, starts (sent (c .before)) .trailer)
+
+part-check-body-end : tie.Need-part-check-body-end
+part-check-body-end c = omega (arith, starts (sent (c .before)) .place, starts (sent (c .before)) .trailer)
+
+returns-7 : tie.Need-returns-7
+unfolding afterSender
+returns-7 c =
+    let place = sent (c .before .before .before) in
+    let f = frame place in
+    let s = starts place in
+    let start = place .start .given .0 .0 in
+    let long : trailerPlace f - start ≡ lengthIn f = omega arith in
+    c .check-body .ensures
+    ∙ ap₂ (λ (k p : ℕ). bodyAnswer (entry place .args .n) (kindIn f) (take k (drop p f))) long (s .place)
+    ∙ sym (not-sender (c .before .before .before) ∙ rw (eq-eqb (lengthIn f + trailerLength) (length f) (omega arith)))
+
+pub check-spec : {M : Type 1} → statement M
+check-spec =
+    tie.close
+    (tie.spec
+    (λ c κs. search needs)
+    (λ c. search needs)
+    (λ c. search needs)
+    returns
+    sub-end
+    (λ c. search needs)
+    get-u16-requires
+    (λ c κs. search needs)
+    (λ c. search needs)
+    get-u64-requires
+    returns-2
+    shared-slice-read-kind
+    returns-3
+    returns-4
+    (λ c. search needs)
+    shared-slice-read-sender
+    returns-5
+    returns-6
+    sub-check-body
+    part-check-body-start
+    part-check-body-end
+    (λ c κs. search needs)
+    returns-7)

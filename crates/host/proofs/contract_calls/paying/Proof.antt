@@ -1,0 +1,10 @@
+-- `paying` meets its contract: the code is the definition's.
+use borrow.Author.Needs.{needs}
+use Rattle.host.proofs.contract_calls.paying.Statement.{statement}
+use Rattle.host.proofs.contract_calls.paying.Tie as tie
+
+returns : tie.Need-returns
+returns c = cc
+
+pub paying-spec : {M : Type 1} → statement M
+paying-spec = tie.close (tie.spec (λ c κs. search needs) returns)

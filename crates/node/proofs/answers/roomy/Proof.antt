@@ -1,0 +1,22 @@
+-- `roomy` meets its contract: the outbox has room behind a position within it just where it has room for both.
+use Prim.Native.Nat.{_+_}
+use native.Mathlib.Omega.{arith}
+use borrow.Author.Tests.{lt-leb}
+use Rattle.config.specs.Limits.{outboxSize}
+use Rattle.node.specs.State.{roomy}
+use Rattle.node.proofs.Checks.{leb-behind}
+use Rattle.node.proofs.answers.roomy.Statement.{statement}
+use Rattle.node.proofs.answers.roomy.Tie as tie
+
+returns : tie.Need-returns
+unfolding roomy
+returns c =
+    let a = c .before .args in
+    rw (lt-leb (a .at + outboxSize) (a .outbox) (omega arith))
+
+returns-2 : tie.Need-returns-2
+unfolding roomy
+returns-2 c = rw (leb-behind outboxSize (c .before .args .at) (c .before .args .outbox) (c .if1 .left))
+
+pub roomy-spec : {M : Type 1} → statement M
+roomy-spec = tie.close (tie.spec returns returns-2)
