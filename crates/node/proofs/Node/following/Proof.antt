@@ -99,6 +99,9 @@ add-doing c =
     (record { fits = first .write-announced .ok })
     (record { fits = second .write-reply .ok })
 
+same-length-2 : tie.Need-same-length-2
+same-length-2 c = omega (arith, c .before .before .before .before .before .before .before .before .before .before .before .before .before .before .before .before .before .before .before)
+
 returns : tie.Need-returns
 returns c bits signatures =
     let second = c .before .before .before .before .before .before .before in
@@ -131,5 +134,5 @@ following-spec =
     (λ c κs. search needs)
     (λ c κs. search needs)
     (λ c. search needs)
-    (λ c. search needs)
+    same-length-2
     returns)

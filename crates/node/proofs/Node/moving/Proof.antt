@@ -45,8 +45,14 @@ second c =
 add-doing : tie.Need-add-doing
 add-doing c = omega (arith, first (c .before .before .before .before .before .before .before .before), second (c .before .before .before))
 
+same-length : tie.Need-same-length
+same-length c = let second = c .before .before .before .before .before .before in omega (arith, second, second .before .before .before .before .before)
+
 same-length-2 : tie.Need-same-length-2
 same-length-2 c = omega (arith, c .before .before .before .before .before .before .before .before .before .before .before .before .before .before .before .before .before .before .before .before)
+
+same-length-3 : tie.Need-same-length-3
+same-length-3 c = omega (arith, c .before .before .before .before .before .before .before .before .before .before .before .before .before .before .before .before)
 
 returns : tie.Need-returns
 returns c =
@@ -71,7 +77,7 @@ moving-spec =
     (λ c κs. search needs)
     (λ c κs. search needs)
     (λ c κs. search needs)
-    (λ c. search needs)
+    same-length
     same-length-2
-    (λ c. search needs)
+    same-length-3
     returns)
