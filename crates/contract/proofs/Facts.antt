@@ -12,7 +12,8 @@ use Rattle.config.specs.Bounds.{goodMembers, goodOwn, goodTime, goodCommit}
 use Rattle.config.specs.Codes.{numberOf, isDone}
 use Rattle.config.specs.declared.Answer.{Answer}
 use Rattle.config.specs.declared.Answer.the-variants as answer
-use Rattle.config.proofs.Facts.{and-true, Members, members-facts, Own, own-facts, done-only}
+use Rattle.config.proofs.Facts.{and-true, Members, members-facts, Own, own-facts}
+use Rattle.config.proofs.Passed.{itself, stage-passed, answer-passed}
 use Rattle.ledger.specs.Ledger.{owed, covered}
 use Rattle.contract.specs.declared.Terms.{Terms}
 use Rattle.contract.specs.declared.Contract.{Contract}
@@ -63,23 +64,18 @@ good-contract c g = rw (g .terms, g .commit, le-leb (c .ledger .deposits) mostDe
 
 -- ---- answers
 
--- a stage that refuses was passed, where what comes of it is DONE
-stage-passed : {A : Type 0} (says : A → Answer) (b : Bool) (x y : A) → isDone (says x) ≡ false → isDone (says (cond b x y)) ≡ true → (b ≡ false) × (isDone (says y) ≡ true)
-stage-passed says true x y h e = absurd (false≢true (sym h ∙ e))
-stage-passed says false x y h e = (refl, e)
-
 pub deposit-passed : (c : Contract) (amount : ℕ) → isDone (depositAnswer c amount) ≡ true → (goodContract c ≡ true) × (c .ledger .deposits + amount ≤ mostDeposits)
 unfolding depositAnswer numberOf
 deposit-passed c amount h =
-    let p = stage-passed (λ (a : Answer). a) (not (goodContract c)) answer.State (cond (ltb mostDeposits (c .ledger .deposits + amount)) answer.Range answer.Done) refl h in
-    let q = stage-passed (λ (a : Answer). a) (ltb mostDeposits (c .ledger .deposits + amount)) answer.Range answer.Done refl (p .1) in
+    let p = stage-passed itself (not (goodContract c)) answer.State (cond (ltb mostDeposits (c .ledger .deposits + amount)) answer.Range answer.Done) refl h in
+    let q = stage-passed itself (ltb mostDeposits (c .ledger .deposits + amount)) answer.Range answer.Done refl (p .1) in
     (not-false _ (p .0), ltb-false _ _ (q .0))
 
 pub withdraw-passed : (c : Contract) (member : ℕ) → isDone (withdrawAnswer c member) ≡ true → (goodContract c ≡ true) × Own (c .terms .n) member
 unfolding withdrawAnswer numberOf
 withdraw-passed c member h =
-    let p = stage-passed (λ (a : Answer). a) (not (goodContract c)) answer.State (cond (not (goodOwn (c .terms .n) member)) answer.Sender answer.Done) refl h in
-    let q = stage-passed (λ (a : Answer). a) (not (goodOwn (c .terms .n) member)) answer.Sender answer.Done refl (p .1) in
+    let p = stage-passed itself (not (goodContract c)) answer.State (cond (not (goodOwn (c .terms .n) member)) answer.Sender answer.Done) refl h in
+    let q = stage-passed itself (not (goodOwn (c .terms .n) member)) answer.Sender answer.Done refl (p .1) in
     (not-false _ (p .0), own-facts (c .terms .n) member (not-false _ (q .0)))
 
 -- a member's place is one of the accounts'
@@ -123,14 +119,6 @@ range-passed c a transmitter bits h =
     let q = fault-passed (attestedFault (c .terms .f) bits a) (afterReport c (length (a .list)) transmitter) (p .1) in
     record { rises = not-false _ (p .0); stands = q .0; report = report-passed c (length (a .list)) transmitter (q .1) }
 
--- an answer that is passed on unless it is DONE
-body-passed : (said : Answer) (rest : Refusal) → isDone (cond (not (isDone said)) (plainly said) rest .answer) ≡ true → (said ≡ answer.Done) × (isDone (rest .answer) ≡ true)
-body-passed said rest h = go (isDone said) refl h
-  where
-    go : (b : Bool) → isDone said ≡ b → isDone (cond (not b) (plainly said) rest .answer) ≡ true → (said ≡ answer.Done) × (isDone (rest .answer) ≡ true)
-    go true e g = (done-only said e, g)
-    go false e g = absurd (false≢true (sym e ∙ g))
-
 pub record SubmitPassed (c : Contract) (body : List ℕ) (transmitter time bits : ℕ) : Type 0 where
   pub good : goodContract c ≡ true
   pub body-good : bodyAnswer (c .terms .n) 6 body ≡ answer.Done
@@ -143,6 +131,6 @@ submit-passed c body transmitter time bits h =
     let said = bodyAnswer (c .terms .n) 6 body in
     let last = cond (not (goodTime time)) (plainly answer.Range) (afterRange c (attestedIn body) transmitter bits) in
     let p = stage-passed answerOf (not (goodContract c)) (plainly answer.State) (cond (not (isDone said)) (plainly said) last) refl h in
-    let q = body-passed said last (p .1) in
+    let q = answer-passed answerOf said (plainly said) last refl (p .1) in
     let r = stage-passed answerOf (not (goodTime time)) (plainly answer.Range) (afterRange c (attestedIn body) transmitter bits) refl (q .1) in
     record { good = not-false _ (p .0); body-good = q .0; time-good = not-false _ (r .0); range = range-passed c (attestedIn body) transmitter bits (r .1) }

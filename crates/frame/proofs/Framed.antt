@@ -1,5 +1,5 @@
 -- A frame that no check refuses is its body and the trailer that its sender writes behind that body; and such a frame passes to its body's checks.
--- A stage of the checks is undone by one law, and a field of the trailer is found at its place in the trailer.
+-- A field of the trailer is found at its place in the trailer.
 use mathlib.Core.Path.{_≡_, refl, sym, ap, ap₂, _∙_}
 use mathlib.Core.Bool.{Bool, true, false, not, cond, _||_, false≢true}
 use mathlib.Core.List.{List, _++_}
@@ -10,9 +10,10 @@ use borrow.Author.Tests.{le-ltb, eq-eqb, ne-eqb, eqb-true, eqb-false, ltb-false,
 use lib.Dec.{eqb, ltb}
 use lib.ListN.{length, getD, take, drop, length-append, length-drop, take-append-drop}
 use lib.Seq.{drop-cons, drop-drop, getD-drop, length-take-le, drop-append-add, getD-append-add, take-append-seam}
-use Rattle.config.specs.declared.Answer.{Answer}
 use Rattle.config.specs.declared.Answer.the-variants.{Done, Short, Version, Kind, Sender, Length, Range}
 use Rattle.config.specs.Codes.{numberOf, isDone}
+use Rattle.config.proofs.Facts.{done-only}
+use Rattle.config.proofs.Passed.{itself, stage-passed}
 use Rattle.wire.specs.Numbers.{Bytes, part, beNumber, beBytes}
 use Rattle.wire.proofs.Numbers.{bytes-drop, beNumber-beBytes}
 use Rattle.frame.specs.Table.{goodKind, versionOf, trailerLength}
@@ -22,12 +23,7 @@ use Rattle.frame.specs.Range.{goodMessage}
 use Rattle.frame.specs.Check.{goodLength, bodyAnswer, afterSender, afterKind, afterVersion, afterShort, tooShort, frameAnswer}
 use Rattle.frame.proofs.Entries.{part-last, part-number}
 
--- ---- a stage
-
-pub passed : (test : Bool) (refusal rest : Answer) → isDone refusal ≡ false → cond test refusal rest ≡ Done → (test ≡ false) × (rest ≡ Done)
-unfolding numberOf
-passed true refusal rest n e = absurd (false≢true (sym n ∙ ap isDone e))
-passed false refusal rest n e = (refl, e)
+-- ---- what the checks tell
 
 pub or-false : (a b : Bool) → a || b ≡ false → (a ≡ false) × (b ≡ false)
 or-false true b e = absurd (false≢true (sym e))
@@ -42,8 +38,8 @@ long-enough f h =
 pub passed-body : (n kind : ℕ) (b : List ℕ) → bodyAnswer n kind b ≡ Done → (goodLength kind b ≡ true) × (goodMessage n (messageOf kind b) ≡ true)
 unfolding bodyAnswer numberOf
 passed-body n kind b e =
-    let p = passed (not (goodLength kind b)) Length (cond (not (goodMessage n (messageOf kind b))) Range Done) refl e in
-    let q = passed (not (goodMessage n (messageOf kind b))) Range Done refl (p .1) in
+    let p = stage-passed itself (not (goodLength kind b)) Length (cond (not (goodMessage n (messageOf kind b))) Range Done) refl (ap isDone e) in
+    let q = stage-passed itself (not (goodMessage n (messageOf kind b))) Range Done refl (p .1) in
     (not-false _ (p .0), not-false _ (q .0))
 
 -- what a frame that passes has shown
@@ -64,12 +60,13 @@ pub record Passed (f : List ℕ) (n number link : ℕ) : Type 0 where
 pub passed-all : (f : List ℕ) (n number link : ℕ) → frameAnswer f n number link ≡ Done → Passed f n number link
 unfolding frameAnswer afterShort afterVersion afterKind afterSender numberOf
 passed-all f n number link e =
-    let p = passed (tooShort f) Short (afterShort f n number link) refl e in
-    let q = passed (not (eqb (versionIn f) (versionOf n)) || not (eqb (numberIn f) number)) Version (afterVersion f n link) refl (p .1) in
-    let r = passed (not (goodKind (kindIn f))) Kind (afterKind f n link) refl (q .1) in
-    let s = passed (eqb (senderIn f) 0 || ltb n (senderIn f) || not (eqb (senderIn f) link)) Sender (afterSender f n) refl (r .1) in
-    let t = passed (not (eqb (lengthIn f + trailerLength) (length f))) Length (bodyAnswer n (kindIn f) (bodyIn f)) refl (s .1) in
-    let body = passed-body n (kindIn f) (bodyIn f) (t .1) in
+    let p = stage-passed itself (tooShort f) Short (afterShort f n number link) refl (ap isDone e) in
+    let q = stage-passed itself (not (eqb (versionIn f) (versionOf n)) || not (eqb (numberIn f) number)) Version (afterVersion f n link) refl (p .1) in
+    let r = stage-passed itself (not (goodKind (kindIn f))) Kind (afterKind f n link) refl (q .1) in
+    let s = stage-passed itself (eqb (senderIn f) 0 || ltb n (senderIn f) || not (eqb (senderIn f) link)) Sender (afterSender f n) refl (r .1) in
+    let t = stage-passed itself (not (eqb (lengthIn f + trailerLength) (length f))) Length (bodyAnswer n (kindIn f) (bodyIn f)) refl (s .1) in
+    let answer = done-only _ (t .1) in
+    let body = passed-body n (kindIn f) (bodyIn f) answer in
     let numbers = or-false (not (eqb (versionIn f) (versionOf n))) (not (eqb (numberIn f) number)) (q .0) in
     let senders = or-false (eqb (senderIn f) 0 || ltb n (senderIn f)) (not (eqb (senderIn f) link)) (s .0) in
     let range = or-false (eqb (senderIn f) 0) (ltb n (senderIn f)) (senders .0) in
@@ -83,7 +80,7 @@ passed-all f n number link e =
       most = ltb-false n (senderIn f) (range .1);
       sender = eqb-true _ _ (not-false _ (senders .1));
       whole = eqb-true _ _ (not-false _ (t .0));
-      answer = t .1;
+      answer = answer;
       body = body .0;
       range = body .1;
     }

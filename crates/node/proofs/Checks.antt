@@ -1,7 +1,7 @@
 -- How the checks of a call stand one after another: what a check that passed tells, and that STATE and ROOM come before the event's own.
-use mathlib.Core.Bool.{Bool, true, false, not, cond, _&&_, false≢true}
+use mathlib.Core.Bool.{Bool, true, false, not, cond, _&&_}
 use mathlib.Core.List.{List}
-use mathlib.Core.Path.{_≡_, refl, sym, ap, _∙_}
+use mathlib.Core.Path.{_≡_, refl, ap}
 use Prim.Native.Nat.{ℕ, _+_, _-_, _≤_}
 use native.Mathlib.Omega.{arith}
 use borrow.Author.Tests.{leb-true, leb-false, le-leb, lt-leb, not-false}
@@ -11,7 +11,8 @@ use Rattle.config.specs.Codes.{numberOf, isDone}
 use Rattle.config.specs.declared.Answer.{Answer}
 use Rattle.config.specs.declared.Answer.the-variants as answer
 use Rattle.config.specs.declared.Commit.{Commit}
-use Rattle.config.proofs.Facts.{and-true, done-only}
+use Rattle.config.proofs.Facts.{and-true}
+use Rattle.config.proofs.Passed.{itself, stage-passed, answer-passed}
 use Rattle.frame.specs.Message.{Message}
 use Rattle.frame.specs.Decode.{messageIn}
 use Rattle.frame.specs.Check.{frameAnswer}
@@ -22,21 +23,6 @@ use Rattle.node.specs.declared.Node.{Node}
 use Rattle.node.specs.declared.Fired.{Fired}
 use Rattle.node.specs.State.{goodNode, goodKept, goodState}
 use Rattle.node.specs.Answers.{firing, ending, timerAnswer, ruleAnswer, pastLast, messageAnswer, deliveryAnswer, afterState}
-
--- ---- stages
-
--- a stage that refuses was passed, where what comes of it is DONE
-pub stage-passed : (test : Bool) (refusal rest : Answer) → isDone refusal ≡ false → isDone (cond test refusal rest) ≡ true → (test ≡ false) × (isDone rest ≡ true)
-stage-passed true refusal rest n e = absurd (false≢true (sym n ∙ e))
-stage-passed false refusal rest n e = (refl, e)
-
--- an answer that is passed on unless it is DONE
-pub answer-passed : (said rest : Answer) → isDone (cond (not (isDone said)) said rest) ≡ true → (said ≡ answer.Done) × (isDone rest ≡ true)
-answer-passed said rest h = go (isDone said) refl h
-  where
-    go : (b : Bool) → isDone said ≡ b → isDone (cond (not b) said rest) ≡ true → (said ≡ answer.Done) × (isDone rest ≡ true)
-    go true e g = (done-only said e, g)
-    go false e g = absurd (false≢true (sym e ∙ g))
 
 -- ---- STATE and ROOM
 
@@ -63,8 +49,8 @@ module _ (room : Bool) (n : Node) (kept : List ℕ) (a : Answer) where
   pub state-passed : isDone (afterState room n kept a) ≡ true → StatePassed room n kept a
   unfolding afterState numberOf
   state-passed h =
-      let p = stage-passed (not (goodState n kept)) answer.State (cond (not room) answer.Room a) refl h in
-      let q = stage-passed (not room) answer.Room a refl (p .1) in
+      let p = stage-passed itself (not (goodState n kept)) answer.State (cond (not room) answer.Room a) refl h in
+      let q = stage-passed itself (not room) answer.Room a refl (p .1) in
       record { good = not-false _ (p .0); roomy = not-false _ (q .0); done = q .1 }
 
   pub state-config : isDone (afterState room n kept a) ≡ true → goodConfig (n .config) ≡ true
@@ -96,25 +82,26 @@ module _ (n : Node) where
   unfolding timerAnswer numberOf
   timer-passed t time h =
       let last = cond (ending n t) answer.End answer.Done in
-      let p = stage-passed (not (goodTime time)) answer.Range (cond (not (firing n t)) answer.Ignored last) refl h in
-      let q = stage-passed (not (firing n t)) answer.Ignored last refl (p .1) in
-      (not-false _ (q .0), stage-passed (ending n t) answer.End answer.Done refl (q .1) .0)
+      let p = stage-passed itself (not (goodTime time)) answer.Range (cond (not (firing n t)) answer.Ignored last) refl h in
+      let q = stage-passed itself (not (firing n t)) answer.Ignored last refl (p .1) in
+      (not-false _ (q .0), stage-passed itself (ending n t) answer.End answer.Done refl (q .1) .0)
 
   message-passed : (link bits : ℕ) (m : Message) → isDone (messageAnswer n link bits m) ≡ true → (isDone (ruleAnswer n link bits m) ≡ true) × (pastLast n m ≡ false)
   unfolding messageAnswer numberOf
   message-passed link bits m h =
       let said = ruleAnswer n link bits m in
       let last = cond (pastLast n m) answer.End answer.Done in
-      let p = stage-passed (not (isStarted (n .pace))) answer.Ignored (cond (not (isDone said)) said last) refl h in
-      let q = answer-passed said last (p .1) in
-      (ap isDone (q .0), stage-passed (pastLast n m) answer.End answer.Done refl (q .1) .0)
+      let p = stage-passed itself (not (isStarted (n .pace))) answer.Ignored (cond (not (isDone said)) said last) refl h in
+      let q = answer-passed itself said said last refl (p .1) in
+      (ap isDone (q .0), stage-passed itself (pastLast n m) answer.End answer.Done refl (q .1) .0)
 
   pub delivery-passed : (link time : ℕ) (commit : Commit) (bits : ℕ) (frame : List ℕ) → isDone (deliveryAnswer n link time commit bits frame) ≡ true → (frameAnswer frame (n .config .n) (n .config .number) link ≡ answer.Done) × (isDone (ruleAnswer n link bits (messageIn frame)) ≡ true) × (pastLast n (messageIn frame) ≡ false)
   unfolding deliveryAnswer numberOf
   delivery-passed link time commit bits frame h =
       let timely = goodTime time && goodCommit commit in
       let last = messageAnswer n link bits (messageIn frame) in
-      let p = answer-passed (frameAnswer frame (n .config .n) (n .config .number) link) (cond (not timely) answer.Range last) h in
-      let q = stage-passed (not timely) answer.Range last refl (p .1) in
+      let said = frameAnswer frame (n .config .n) (n .config .number) link in
+      let p = answer-passed itself said said (cond (not timely) answer.Range last) refl h in
+      let q = stage-passed itself (not timely) answer.Range last refl (p .1) in
       let r = message-passed link bits (messageIn frame) (q .1) in
       (p .0, r .0, r .1)

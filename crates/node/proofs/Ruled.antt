@@ -9,6 +9,7 @@ use lib.IntN.{ℤ}
 use Rattle.config.specs.Codes.{numberOf, isDone}
 use Rattle.config.specs.declared.Answer.the-variants as answer
 use Rattle.config.proofs.Facts.{and-true}
+use Rattle.config.proofs.Passed.{itself, stage-passed}
 use Rattle.wire.specs.Numbers.{Bytes}
 use Rattle.frame.specs.Message.{Observation, Message, newEpoch, observeReq, observe, reportReq, report, final, finalEcho}
 use Rattle.frame.specs.Encode.{bodyBytes}
@@ -36,7 +37,7 @@ use Rattle.node.specs.Answers.{firing, ending, followerAnswer, leaderAns
 use Rattle.node.specs.Effects.{pacing, moving, hearing, following, leading, led-by, delivering, effectOf}
 use Rattle.node.specs.Calls.{step}
 use Rattle.node.specs.Runs.{settledIn, after}
-use Rattle.node.proofs.Checks.{stage-passed, state-passed, timer-passed, delivery-passed}
+use Rattle.node.proofs.Checks.{state-passed, timer-passed, delivery-passed}
 use Rattle.node.proofs.Steps.{step-done}
 
 -- ---- the rules
@@ -88,8 +89,8 @@ module _ (w : Whole) where
     leader-taken m h =
         let n = w .node in
         let stands = leader.stands (n .config .n) (n .leader) (d .bits) m in
-        let p = stage-passed (not (leader.takes (n .leader) (leads n) (epochOf n) (d .link) m)) answer.Ignored (cond (not stands) answer.Proof answer.Done) refl h in
-        let q = stage-passed (not stands) answer.Proof answer.Done refl (p .1) in
+        let p = stage-passed itself (not (leader.takes (n .leader) (leads n) (epochOf n) (d .link) m)) answer.Ignored (cond (not stands) answer.Proof answer.Done) refl h in
+        let q = stage-passed itself (not stands) answer.Proof answer.Done refl (p .1) in
         (not-false _ (p .0), not-false _ (q .0))
 
     hearing-ruled : (x : ℕ) → Says (w .node) d (newEpoch x) → Ruled w (delivers d) (hearing w (d .link) x)

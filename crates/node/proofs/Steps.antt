@@ -13,11 +13,11 @@ use Rattle.config.specs.declared.Answer.the-variants as answer
 use Rattle.config.specs.declared.Config.{Config}
 use Rattle.config.specs.declared.Saved.{Saved}
 use Rattle.config.proofs.Facts.{and-true, done-only}
+use Rattle.config.proofs.Passed.{itself, stage-passed}
 use Rattle.quorum.proofs.Cases.{cases, test, test-false}
 use Rattle.quorum.proofs.Marks.{flags-none}
 use Rattle.frame.specs.Message.{newEpoch}
 use Rattle.frame.specs.Decode.{epochIn, kindIn, bodyIn, messageOf, messageIn}
-use Rattle.frame.proofs.Framed.{passed}
 use Rattle.pacemaker.specs.State.{goodPace}
 use Rattle.follower.specs.State.{goodFollower}
 use Rattle.leader.specs.State.{goodLeader}
@@ -45,8 +45,8 @@ restored-good c s = simp (flags-none, and-unit)
 pub made-is-good : MadeIsGood
 unfolding restoreAnswer goodState goodKept numberOf
 made-is-good c s kept h =
-    let p = passed (not (goodConfig c)) answer.Config (cond (not (leb (s .epoch) (s .highest))) answer.State answer.Done) refl (done-only _ h) in
-    let q = passed (not (leb (s .epoch) (s .highest))) answer.State answer.Done refl (p .1) in
+    let p = stage-passed itself (not (goodConfig c)) answer.Config (cond (not (leb (s .epoch) (s .highest))) answer.State answer.Done) refl h in
+    let q = stage-passed itself (not (leb (s .epoch) (s .highest))) answer.State answer.Done refl (p .1) in
     rw (restored-good c s, not-false (goodConfig c) (p .0), not-false (leb (s .epoch) (s .highest)) (q .0))
 
 -- the other way round: a node in range could be restored

@@ -7,6 +7,7 @@ use native.Mathlib.Omega.{arith}
 use borrow.Author.Tests.{lt-ltb, le-ltb, ltb-false, eqb-true, eq-eqb}
 use lib.Dec.{eqb, ltb}
 use Rattle.config.specs.Codes.{numberOf, isDone}
+use Rattle.config.proofs.Passed.{stage-passed}
 use Rattle.quorum.specs.First.{firstAt}
 use Rattle.quorum.proofs.Cases.{cases}
 use Rattle.quorum.proofs.First.{first-law}
@@ -39,8 +40,9 @@ first-nothing x y e =
 -- a test with its fault, and the tests after it
 pub test-nothing : (t : Bool) (x rest : Fault) → isDone (codeOf x) ≡ false → cond t x rest ≡ Nothing → (t ≡ false) × (rest ≡ Nothing)
 unfolding numberOf
-test-nothing true x rest w e = absurd (false≢true (sym w ∙ ap (λ (z : Fault). isDone (codeOf z)) e))
-test-nothing false x rest w e = (refl, e)
+test-nothing t x rest w e =
+    let p = stage-passed codeOf t x rest w (ap (λ (z : Fault). isDone (codeOf z)) e) in
+    (p .0, done-nothing rest (p .1))
 
 -- ---- the fault at a first place
 

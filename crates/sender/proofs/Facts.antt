@@ -1,5 +1,5 @@
 -- What the checks of states and calls tell, as plain facts for whoever passed them.
-use mathlib.Core.Path.{_≡_, refl, sym, ap, _∙_}
+use mathlib.Core.Path.{_≡_, refl, sym, ap}
 use mathlib.Core.Bool.{Bool, true, false, not, cond, _&&_, _||_, false≢true, or-true}
 use mathlib.Core.List.{List}
 use Prim.Native.Nat.{ℕ, _≤_}
@@ -8,14 +8,15 @@ use lib.Dec.{eqb, ltb}
 use Rattle.config.specs.Limits.{slots}
 use Rattle.config.specs.Bounds.{goodConfig, goodTime, goodCommit, paired}
 use Rattle.config.specs.Codes.{numberOf, isDone}
-use Rattle.config.specs.declared.Answer.{Answer}
 use Rattle.config.specs.declared.Answer.the-variants as answer
 use Rattle.config.specs.declared.Commit.{Commit}
 use Rattle.config.proofs.Facts.{and-true, done-only}
+use Rattle.config.proofs.Passed.{itself, stage-passed, answer-passed}
 use Rattle.quorum.specs.Marks.{flags}
 use Rattle.frame.specs.Message.{Attested}
 use Rattle.frame.specs.Decode.{attestedIn}
 use Rattle.frame.specs.Check.{bodyAnswer}
+use Rattle.frame.proofs.Framed.{or-false}
 use Rattle.report.specs.Newer.{newer}
 use Rattle.sender.specs.declared.Sender.{Sender}
 use Rattle.sender.specs.State.{goodTimes, goodSlots, roomy, goodFields, goodSender, timeOf}
@@ -24,10 +25,6 @@ use Rattle.sender.specs.Waiting.{earliest, freeIn}
 use Rattle.sender.specs.Calls.{afterSimilar, similar, medianIn, old, afterConfig, afterBody, transmitAnswer, transmitted, transmitOf, sent, refusedTransmission, early, timeoutAnswer, released, timeoutOf, refusedTimeout}
 
 -- ---- tests
-
-neither : (a b : Bool) → (a || b) ≡ false → (a ≡ false) × (b ≡ false)
-neither true b h = absurd (false≢true (sym h))
-neither false b h = (refl, h)
 
 not-second : (a b : Bool) → a && b ≡ false → a ≡ true → b ≡ false
 not-second true b h e = h
@@ -60,21 +57,6 @@ pub config-refused : (s : Sender) (waiting : List ℕ) → goodConfig (s .config
 unfolding goodSender goodFields
 config-refused s waiting h = rw h
 
--- ---- answers
-
--- a stage that refuses was passed, where what comes of it is DONE
-stage-passed : (b : Bool) (x y : Answer) → isDone x ≡ false → isDone (cond b x y) ≡ true → (b ≡ false) × (isDone y ≡ true)
-stage-passed true x y h e = absurd (false≢true (sym h ∙ e))
-stage-passed false x y h e = (refl, e)
-
--- an answer that is passed on unless it is DONE
-body-passed : (said rest : Answer) → isDone (cond (not (isDone said)) said rest) ≡ true → (said ≡ answer.Done) × (isDone rest ≡ true)
-body-passed said rest = go (isDone said) refl
-  where
-    go : (b : Bool) → isDone said ≡ b → isDone (cond (not b) said rest) ≡ true → (said ≡ answer.Done) × (isDone rest ≡ true)
-    go true e h = (done-only said e, h)
-    go false e h = absurd (false≢true (sym e ∙ h))
-
 -- ---- transmissions
 
 pub record TransmitPassed (s : Sender) (body : List ℕ) (time : ℕ) (commit : Commit) (permutation waiting : List ℕ) : Type 0 where
@@ -91,10 +73,10 @@ pub record TransmitPassed (s : Sender) (body : List ℕ) (time : ℕ) (commit : 
 config-passed : (s : Sender) (commit : Commit) (a : Attested) (place : ℕ) → isDone (afterConfig s commit a place) ≡ true → (newer (a .epoch) (a .round) (commit .epoch) (commit .round) ≡ true) × (newer (a .epoch) (a .round) (s .accepted .epoch) (s .accepted .round) ≡ true) × (waits (s .config) place && eqb (freeIn (s .taken)) slots ≡ false)
 unfolding afterConfig afterSimilar numberOf
 config-passed s commit a place h =
-    let p = stage-passed (old s commit a) answer.Old (cond (similar s commit (medianIn a)) answer.Similar (afterSimilar s place)) refl h in
-    let q = stage-passed (similar s commit (medianIn a)) answer.Similar (afterSimilar s place) refl (p .1) in
-    let r = stage-passed (waits (s .config) place && eqb (freeIn (s .taken)) slots) answer.Queue answer.Done refl (q .1) in
-    let t = neither (not (newer (a .epoch) (a .round) (commit .epoch) (commit .round))) (not (newer (a .epoch) (a .round) (s .accepted .epoch) (s .accepted .round))) (p .0) in
+    let p = stage-passed itself (old s commit a) answer.Old (cond (similar s commit (medianIn a)) answer.Similar (afterSimilar s place)) refl h in
+    let q = stage-passed itself (similar s commit (medianIn a)) answer.Similar (afterSimilar s place) refl (p .1) in
+    let r = stage-passed itself (waits (s .config) place && eqb (freeIn (s .taken)) slots) answer.Queue answer.Done refl (q .1) in
+    let t = or-false (not (newer (a .epoch) (a .round) (commit .epoch) (commit .round))) (not (newer (a .epoch) (a .round) (s .accepted .epoch) (s .accepted .round))) (p .0) in
     (not-false _ (t .0), not-false _ (t .1), r .0)
 
 pub transmit-passed : (s : Sender) (body : List ℕ) (time : ℕ) (commit : Commit) (permutation waiting : List ℕ) → isDone (transmitAnswer s body time commit permutation waiting) ≡ true → TransmitPassed s body time commit permutation waiting
@@ -104,11 +86,11 @@ transmit-passed s body time commit permutation waiting h =
     let said = bodyAnswer (s .config .n) 6 body in
     let after = afterBody s body time commit permutation in
     let last = afterConfig s commit (attestedIn body) place in
-    let p = stage-passed (not (goodSender s waiting)) answer.State (cond (not (roomy waiting)) answer.Room (cond (not (isDone said)) said after)) refl h in
-    let q = stage-passed (not (roomy waiting)) answer.Room (cond (not (isDone said)) said after) refl (p .1) in
-    let r = body-passed said after (q .1) in
-    let t = stage-passed (not (goodTime time && goodCommit commit)) answer.Range (cond (not (permutes (s .config .n) permutation)) answer.Config last) refl (r .1) in
-    let u = stage-passed (not (permutes (s .config .n) permutation)) answer.Config last refl (t .1) in
+    let p = stage-passed itself (not (goodSender s waiting)) answer.State (cond (not (roomy waiting)) answer.Room (cond (not (isDone said)) said after)) refl h in
+    let q = stage-passed itself (not (roomy waiting)) answer.Room (cond (not (isDone said)) said after) refl (p .1) in
+    let r = answer-passed itself said said after refl (q .1) in
+    let t = stage-passed itself (not (goodTime time && goodCommit commit)) answer.Range (cond (not (permutes (s .config .n) permutation)) answer.Config last) refl (r .1) in
+    let u = stage-passed itself (not (permutes (s .config .n) permutation)) answer.Config last refl (t .1) in
     let v = config-passed s commit (attestedIn body) place (u .1) in
     record {
       good = not-false _ (p .0);
@@ -151,11 +133,11 @@ pub timeout-passed : (s : Sender) (time : ℕ) (commit : Commit) (waiting : List
 unfolding timeoutAnswer early numberOf
 timeout-passed s time commit waiting h =
     let last = cond (early s time waiting) answer.Ignored answer.Done in
-    let p = stage-passed (not (goodSender s waiting)) answer.State (cond (not (roomy waiting)) answer.Room (cond (not (goodTime time && goodCommit commit)) answer.Range last)) refl h in
-    let q = stage-passed (not (roomy waiting)) answer.Room (cond (not (goodTime time && goodCommit commit)) answer.Range last) refl (p .1) in
-    let r = stage-passed (not (goodTime time && goodCommit commit)) answer.Range last refl (q .1) in
-    let t = stage-passed (early s time waiting) answer.Ignored answer.Done refl (r .1) in
-    let u = neither (eqb (earliest s waiting) slots) (ltb time (timeOf s (earliest s waiting))) (t .0) in
+    let p = stage-passed itself (not (goodSender s waiting)) answer.State (cond (not (roomy waiting)) answer.Room (cond (not (goodTime time && goodCommit commit)) answer.Range last)) refl h in
+    let q = stage-passed itself (not (roomy waiting)) answer.Room (cond (not (goodTime time && goodCommit commit)) answer.Range last) refl (p .1) in
+    let r = stage-passed itself (not (goodTime time && goodCommit commit)) answer.Range last refl (q .1) in
+    let t = stage-passed itself (early s time waiting) answer.Ignored answer.Done refl (r .1) in
+    let u = or-false (eqb (earliest s waiting) slots) (ltb time (timeOf s (earliest s waiting))) (t .0) in
     record { good = not-false _ (p .0); room = not-false _ (q .0); some = eqb-false _ _ (u .0); due = ltb-false _ _ (u .1) }
 
 pub timeout-done : (s : Sender) (time : ℕ) (commit : Commit) (waiting : List ℕ) → goodTime time && goodCommit commit ≡ true → TimeoutPassed s time waiting → isDone (timeoutAnswer s time commit waiting) ≡ true
