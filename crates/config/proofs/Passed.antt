@@ -24,3 +24,11 @@ module _ {A : Type 0} (says : A → Answer) where
       go : (b : Bool) → isDone said ≡ b → isDone (says (cond (not b) refusal rest)) ≡ true → (said ≡ Done) × (isDone (says rest) ≡ true)
       go true e g = (done-only said e, g)
       go false e g = absurd (false≢true (sym e ∙ ap isDone (sym same) ∙ g))
+
+  -- a call that its checks decide answers what they answer
+  pub answer-told : (said : Answer) (accepted refusal : A) → says accepted ≡ Done → says refusal ≡ said → says (cond (isDone said) accepted refusal) ≡ said
+  answer-told said accepted refusal done same = go (isDone said) refl
+    where
+      go : (b : Bool) → isDone said ≡ b → says (cond b accepted refusal) ≡ said
+      go true e = done ∙ sym (done-only said e)
+      go false e = same

@@ -12,9 +12,9 @@ use Rattle.config.specs.declared.Answer.{Answer}
 use Rattle.config.specs.declared.Answer.the-variants as answer
 use Rattle.config.specs.declared.Config.{Config}
 use Rattle.config.specs.declared.Saved.{Saved}
-use Rattle.config.proofs.Facts.{and-true, done-only}
-use Rattle.config.proofs.Passed.{itself, stage-passed}
-use Rattle.quorum.proofs.Cases.{cases, test, test-false}
+use Rattle.config.proofs.Facts.{and-true}
+use Rattle.config.proofs.Passed.{itself, stage-passed, answer-told}
+use Rattle.quorum.proofs.Cases.{test-false}
 use Rattle.quorum.proofs.Marks.{flags-none}
 use Rattle.frame.specs.Message.{newEpoch}
 use Rattle.frame.specs.Decode.{epochIn, kindIn, bodyIn, messageOf, messageIn}
@@ -72,11 +72,9 @@ module _ (w : Whole) (e : Event) (outbox : List ℕ) (at : ℕ) where
 
   -- the answer that the call gives
   pub called-answer : called w e outbox at .result .answer ≡ answered
-  unfolding settled
+  unfolding called settled
   called-answer =
-      cases (test (isDone answered))
-      (λ h. ap (λ (r : Out). r .result .answer) (called-done h) ∙ sym (done-only answered h))
-      (λ h. ap (λ (r : Out). r .result .answer) (called-refused h))
+      answer-told (λ (r : Out). r .result .answer) answered (settled (effectOf w e) outbox at) (out (refusing answered (w .node)) outbox (w .kept) (w .signatures)) refl refl
 
 pub refusal-changes-nothing : RefusalChangesNothing
 refusal-changes-nothing w e outbox at h =

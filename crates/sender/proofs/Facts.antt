@@ -1,5 +1,5 @@
 -- What the checks of states and calls tell, as plain facts for whoever passed them.
-use mathlib.Core.Path.{_≡_, refl, sym, ap}
+use mathlib.Core.Path.{_≡_, refl, ap}
 use mathlib.Core.Bool.{Bool, true, false, not, cond, _&&_, _||_, false≢true, or-true}
 use mathlib.Core.List.{List}
 use Prim.Native.Nat.{ℕ, _≤_}
@@ -10,8 +10,8 @@ use Rattle.config.specs.Bounds.{goodConfig, goodTime, goodCommit, paired}
 use Rattle.config.specs.Codes.{numberOf, isDone}
 use Rattle.config.specs.declared.Answer.the-variants as answer
 use Rattle.config.specs.declared.Commit.{Commit}
-use Rattle.config.proofs.Facts.{and-true, done-only}
-use Rattle.config.proofs.Passed.{itself, stage-passed, answer-passed}
+use Rattle.config.proofs.Facts.{and-true}
+use Rattle.config.proofs.Passed.{itself, stage-passed, answer-passed, answer-told}
 use Rattle.quorum.specs.Marks.{flags}
 use Rattle.frame.specs.Message.{Attested}
 use Rattle.frame.specs.Decode.{attestedIn}
@@ -19,10 +19,11 @@ use Rattle.frame.specs.Check.{bodyAnswer}
 use Rattle.frame.proofs.Framed.{or-false}
 use Rattle.report.specs.Newer.{newer}
 use Rattle.sender.specs.declared.Sender.{Sender}
+use Rattle.sender.specs.declared.Released.{Released}
 use Rattle.sender.specs.State.{goodTimes, goodSlots, roomy, goodFields, goodSender, timeOf}
 use Rattle.sender.specs.Stage.{permutes, placeIn, waits}
 use Rattle.sender.specs.Waiting.{earliest, freeIn}
-use Rattle.sender.specs.Calls.{afterSimilar, similar, medianIn, old, afterConfig, afterBody, transmitAnswer, transmitted, transmitOf, sent, refusedTransmission, early, timeoutAnswer, released, timeoutOf, refusedTimeout}
+use Rattle.sender.specs.Calls.{afterSimilar, similar, medianIn, old, afterConfig, afterBody, transmitAnswer, Sent, transmitted, transmitOf, sent, refusedTransmission, early, timeoutAnswer, released, timeoutOf, refusedTimeout}
 
 -- ---- tests
 
@@ -111,11 +112,9 @@ transmit-done s body time commit permutation waiting good room h = rw (good, roo
 -- what a call answers is what its checks answer
 pub transmit-told : (s : Sender) (body : List ℕ) (time : ℕ) (commit : Commit) (permutation waiting : List ℕ) → transmitOf s body time commit permutation waiting .result .answer ≡ transmitAnswer s body time commit permutation waiting
 unfolding transmitOf transmitted
-transmit-told s body time commit permutation waiting = go (isDone (transmitAnswer s body time commit permutation waiting)) refl
-  where
-    go : (b : Bool) → isDone (transmitAnswer s body time commit permutation waiting) ≡ b → cond b (transmitted s body time (placeIn (s .config) permutation) waiting) (sent (refusedTransmission (transmitAnswer s body time commit permutation waiting) s) waiting) .result .answer ≡ transmitAnswer s body time commit permutation waiting
-    go true e = sym (done-only _ e)
-    go false e = refl
+transmit-told s body time commit permutation waiting =
+    let said = transmitAnswer s body time commit permutation waiting in
+    answer-told (λ (r : Sent). r .result .answer) said (transmitted s body time (placeIn (s .config) permutation) waiting) (sent (refusedTransmission said s) waiting) refl refl
 
 -- so it is DONE where no check refuses
 pub transmit-answer : (s : Sender) (body : List ℕ) (time : ℕ) (commit : Commit) (permutation waiting : List ℕ) → isDone (transmitOf s body time commit permutation waiting .result .answer) ≡ isDone (transmitAnswer s body time commit permutation waiting)
@@ -147,11 +146,9 @@ timeout-done s time commit waiting h p =
 
 pub timeout-told : (s : Sender) (time : ℕ) (commit : Commit) (waiting : List ℕ) → timeoutOf s time commit waiting .answer ≡ timeoutAnswer s time commit waiting
 unfolding timeoutOf released
-timeout-told s time commit waiting = go (isDone (timeoutAnswer s time commit waiting)) refl
-  where
-    go : (b : Bool) → isDone (timeoutAnswer s time commit waiting) ≡ b → cond b (released s time commit waiting) (refusedTimeout (timeoutAnswer s time commit waiting) s) .answer ≡ timeoutAnswer s time commit waiting
-    go true e = sym (done-only _ e)
-    go false e = refl
+timeout-told s time commit waiting =
+    let said = timeoutAnswer s time commit waiting in
+    answer-told (λ (r : Released). r .answer) said (released s time commit waiting) (refusedTimeout said s) refl refl
 
 pub timeout-answer : (s : Sender) (time : ℕ) (commit : Commit) (waiting : List ℕ) → isDone (timeoutOf s time commit waiting .answer) ≡ isDone (timeoutAnswer s time commit waiting)
 timeout-answer s time commit waiting = ap isDone (timeout-told s time commit waiting)
