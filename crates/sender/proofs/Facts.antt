@@ -33,6 +33,14 @@ not-second false b h e = absurd (false≢true e)
 
 -- ---- states
 
+pub fields-facts : (s : Sender) → goodFields s ≡ true → (goodConfig (s .config) ≡ true) × (paired (s .accepted .epoch) (s .accepted .round) ≡ true) × (flags (s .taken) ≡ true) × (goodTimes (s .times) ≡ true)
+unfolding goodFields
+fields-facts s h =
+    let p = and-true (goodConfig (s .config) && paired (s .accepted .epoch) (s .accepted .round) && flags (s .taken)) (goodTimes (s .times)) h in
+    let q = and-true (goodConfig (s .config) && paired (s .accepted .epoch) (s .accepted .round)) (flags (s .taken)) (p .0) in
+    let r = and-true (goodConfig (s .config)) (paired (s .accepted .epoch) (s .accepted .round)) (q .0) in
+    (r .0, r .1, q .1, p .1)
+
 pub record SenderGood (s : Sender) (waiting : List ℕ) : Type 0 where
   pub config : goodConfig (s .config) ≡ true
   pub accepted : paired (s .accepted .epoch) (s .accepted .round) ≡ true
@@ -41,13 +49,11 @@ pub record SenderGood (s : Sender) (waiting : List ℕ) : Type 0 where
   pub held : goodSlots slots s waiting ≡ true
 
 pub sender-facts : (s : Sender) (waiting : List ℕ) → roomy waiting ≡ true → goodSender s waiting ≡ true → SenderGood s waiting
-unfolding goodSender goodFields
+unfolding goodSender
 sender-facts s waiting room h =
     let p = and-true (goodFields s) (not (roomy waiting) || goodSlots slots s waiting) h in
-    let q = and-true (goodConfig (s .config) && paired (s .accepted .epoch) (s .accepted .round) && flags (s .taken)) (goodTimes (s .times)) (p .0) in
-    let r = and-true (goodConfig (s .config) && paired (s .accepted .epoch) (s .accepted .round)) (flags (s .taken)) (q .0) in
-    let t = and-true (goodConfig (s .config)) (paired (s .accepted .epoch) (s .accepted .round)) (r .0) in
-    record { config = t .0; accepted = t .1; taken = r .1; times = q .1; held = rw room at (p .1) }
+    let (config, accepted, taken, times) = fields-facts s (p .0) in
+    record { config = config; accepted = accepted; taken = taken; times = times; held = rw room at (p .1) }
 
 pub good-sender : (s : Sender) (waiting : List ℕ) → SenderGood s waiting → goodSender s waiting ≡ true
 unfolding goodSender goodFields

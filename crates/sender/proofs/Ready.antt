@@ -9,16 +9,15 @@ use borrow.Author.Tests.{leb-true, eqb-true}
 use lib.Dec.{eqb}
 use lib.ListN.{length}
 use Rattle.config.specs.Limits.{slots}
-use Rattle.config.specs.Bounds.{goodConfig, paired}
+use Rattle.config.specs.Bounds.{goodConfig}
 use Rattle.config.specs.Codes.{isDone}
 use Rattle.config.specs.declared.Commit.{Commit}
 use Rattle.config.specs.declared.Config.{Config}
 use Rattle.config.proofs.Facts.{and-true, good-facts}
 use Rattle.quorum.specs.First.{distinct}
-use Rattle.quorum.specs.Marks.{flags}
 use Rattle.frame.specs.Range.{allMembers}
 use Rattle.sender.specs.declared.Sender.{Sender}
-use Rattle.sender.specs.State.{goodTimes, goodSlots, goodFields, goodSender, roomy}
+use Rattle.sender.specs.State.{goodSlots, goodFields, goodSender, roomy}
 use Rattle.sender.specs.Stage.{permutes, placeIn}
 use Rattle.sender.specs.Calls.{transmitAnswer, timeoutAnswer}
 use Rattle.sender.specs.Ready.{Passed, Due}
@@ -27,16 +26,9 @@ use Rattle.sender.proofs.Facts
 
 -- ---- states
 
-pub fields-config : (s : Sender) → goodFields s ≡ true → goodConfig (s .config) ≡ true
-unfolding goodFields
-fields-config s h =
-    let p = and-true (goodConfig (s .config) && paired (s .accepted .epoch) (s .accepted .round) && flags (s .taken)) (goodTimes (s .times)) h in
-    let q = and-true (goodConfig (s .config) && paired (s .accepted .epoch) (s .accepted .round)) (flags (s .taken)) (p .0) in
-    and-true (goodConfig (s .config)) (paired (s .accepted .epoch) (s .accepted .round)) (q .0) .0
-
 pub sender-config : (s : Sender) (waiting : List ℕ) → goodSender s waiting ≡ true → goodConfig (s .config) ≡ true
 unfolding goodSender
-sender-config s waiting h = fields-config s (and-true (goodFields s) (not (roomy waiting) || goodSlots slots s waiting) h .0)
+sender-config s waiting h = Facts.fields-facts s (and-true (goodFields s) (not (roomy waiting) || goodSlots slots s waiting) h .0) .0
 
 -- ---- permutations
 

@@ -5,7 +5,7 @@ use borrow.Author.Needs.{needs}
 use borrow.Author.Tests.{le-leb, lt-leb, not-true, not-false}
 use Rattle.config.proofs.Facts.{good-facts}
 use Rattle.sender.specs.State.{goodFields, goodSender}
-use Rattle.sender.proofs.Ready.{fields-config}
+use Rattle.sender.proofs.Facts.{fields-facts}
 use Rattle.sender.proofs.Sender.good.Statement.{statement}
 use Rattle.sender.proofs.Sender.good.Tie as tie
 
@@ -21,7 +21,7 @@ unfolding goodSender
 returns-2 c = rw (fields (c .before), lt-leb _ _ (c .if2 .taken))
 
 good-slots-requires : tie.Need-good-slots-requires
-good-slots-requires c κs = (good-facts _ (fields-config _ (fields (c .before))) .feed .members .most, c .if2 .left)
+good-slots-requires c κs = (good-facts _ (fields-facts _ (fields (c .before)) .0) .feed .members .most, c .if2 .left)
 
 returns-3 : tie.Need-returns-3
 unfolding goodSender
