@@ -10,15 +10,14 @@ use Rattle.config.specs.Bounds.{goodOwn, goodTime}
 use Rattle.config.specs.Codes.{numberOf, isDone}
 use Rattle.config.specs.declared.Answer.the-variants as answer
 use Rattle.frame.specs.Message.{Attested}
-use Rattle.frame.specs.Decode.{attestedIn, messageOf}
-use Rattle.frame.specs.Range.{goodMessage}
-use Rattle.frame.specs.Check.{goodLength, bodyAnswer}
+use Rattle.frame.specs.Decode.{attestedIn}
+use Rattle.frame.specs.Check.{bodyAnswer}
 use Rattle.report.specs.declared.Fault.{Fault}
 use Rattle.report.specs.declared.Fault.the-variants.{Nothing, Few, Falling, Twice, TooFewSigners, SignerTwice, ClearBit}
 use Rattle.report.specs.Faults.{codeOf}
 use Rattle.report.specs.Stands.{attestedFault}
 use Rattle.report.specs.Newer.{newer}
-use Rattle.report.proofs.Listed.{In, either-in}
+use Rattle.report.proofs.Listed.{In, either-in, body-in}
 use Rattle.contract.specs.declared.Contract.{Contract}
 use Rattle.contract.specs.declared.Refusal.{Refusal}
 use Rattle.contract.specs.State.{goodTerms, goodContract}
@@ -49,11 +48,6 @@ module _ (body : List ℕ) (transmitter time bits : ℕ) where
   fault-in (SignerTwice i) = refl
   fault-in (ClearBit i) = refl
 
-  body-in : (n : ℕ) → In all (bodyAnswer n 6 body)
-  unfolding numberOf bodyAnswer
-  body-in n =
-      either-in all (not (goodLength 6 body)) _ _ refl (either-in all (not (goodMessage n (messageOf 6 body))) _ _ refl refl)
-
   range-in : (c : Contract) (a : Attested) → Says (afterRange c a transmitter bits)
   unfolding numberOf afterRange afterOld afterReport
   range-in c a =
@@ -67,7 +61,7 @@ module _ (body : List ℕ) (transmitter time bits : ℕ) where
   unfolding numberOf refusalOf
   refusal-in c =
       either-says (not (goodContract c)) _ _ refl
-      (either-says (not (isDone (bodyAnswer (c .terms .n) 6 body))) _ _ (body-in (c .terms .n))
+      (either-says (not (isDone (bodyAnswer (c .terms .n) 6 body))) _ _ (body-in all (c .terms .n) 6 body refl refl refl)
       (either-says (not (goodTime time)) _ _ refl (range-in c (attestedIn body))))
 
 -- ---- all of them

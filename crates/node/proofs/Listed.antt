@@ -16,10 +16,9 @@ use Rattle.quorum.specs.First.{among}
 use Rattle.quorum.proofs.Cases.{test-false}
 use Rattle.frame.specs.Message.{Message, newEpoch, observeReq, observe, reportReq, report, final, finalEcho}
 use Rattle.frame.specs.Table.{goodKind, versionOf, trailerLength}
-use Rattle.frame.specs.Decode.{kindIn, senderIn, versionIn, lengthIn, numberIn, bodyIn, messageOf, messageIn}
-use Rattle.frame.specs.Range.{goodMessage}
-use Rattle.frame.specs.Check.{goodLength, bodyAnswer, afterSender, afterKind, afterVersion, afterShort, tooShort, frameAnswer}
-use Rattle.report.proofs.Listed.{In, either-in}
+use Rattle.frame.specs.Decode.{kindIn, senderIn, versionIn, lengthIn, numberIn, bodyIn, messageIn}
+use Rattle.frame.specs.Check.{afterSender, afterKind, afterVersion, afterShort, tooShort, frameAnswer}
+use Rattle.report.proofs.Listed.{In, either-in, body-in}
 use Rattle.pacemaker.specs.State.{isStarted}
 use Rattle.pacemaker.specs.Rules as pacemaker
 use Rattle.follower.specs.declared.Finding.{Finding}
@@ -42,15 +41,13 @@ module _ (d : Delivery) where
   all = listed (delivers d)
 
   frame-in : (f : List ℕ) (n number link : ℕ) → In all (frameAnswer f n number link)
-  unfolding numberOf frameAnswer afterShort afterVersion afterKind afterSender bodyAnswer
+  unfolding numberOf frameAnswer afterShort afterVersion afterKind afterSender
   frame-in f n number link =
       either-in all (tooShort f) _ _ refl
       (either-in all (not (eqb (versionIn f) (versionOf n)) || not (eqb (numberIn f) number)) _ _ refl
       (either-in all (not (goodKind (kindIn f))) _ _ refl
       (either-in all (eqb (senderIn f) 0 || ltb n (senderIn f) || not (eqb (senderIn f) link)) _ _ refl
-      (either-in all (not (eqb (lengthIn f + trailerLength) (length f))) _ _ refl
-      (either-in all (not (goodLength (kindIn f) (bodyIn f))) _ _ refl
-      (either-in all (not (goodMessage n (messageOf (kindIn f) (bodyIn f)))) _ _ refl refl))))))
+      (either-in all (not (eqb (lengthIn f + trailerLength) (length f))) _ _ refl (body-in all n (kindIn f) (bodyIn f) refl refl refl)))))
 
   finding-in : (v : Finding) → In all (answerOf v)
   unfolding numberOf

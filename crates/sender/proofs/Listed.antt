@@ -10,10 +10,9 @@ use Rattle.config.specs.Codes.{numberOf, isDone}
 use Rattle.config.specs.declared.Answer.the-variants as answer
 use Rattle.config.specs.declared.Commit.{Commit}
 use Rattle.frame.specs.Message.{Attested}
-use Rattle.frame.specs.Decode.{attestedIn, messageOf}
-use Rattle.frame.specs.Range.{goodMessage}
-use Rattle.frame.specs.Check.{goodLength, bodyAnswer}
-use Rattle.report.proofs.Listed.{In, either-in}
+use Rattle.frame.specs.Decode.{attestedIn}
+use Rattle.frame.specs.Check.{bodyAnswer}
+use Rattle.report.proofs.Listed.{In, either-in, body-in}
 use Rattle.sender.specs.declared.Sender.{Sender}
 use Rattle.sender.specs.State.{roomy, goodSender}
 use Rattle.sender.specs.Stage.{permutes, placeIn, waits}
@@ -29,11 +28,6 @@ module _ (body : List ℕ) (time : ℕ) (commit : Commit) (permutation : List �
   abbrev all : List ℕ
   all = listed (transmits body time commit permutation)
 
-  body-in : (n : ℕ) → In all (bodyAnswer n 6 body)
-  unfolding numberOf bodyAnswer
-  body-in n =
-      either-in all (not (goodLength 6 body)) _ _ refl (either-in all (not (goodMessage n (messageOf 6 body))) _ _ refl refl)
-
   config-in : (s : Sender) (a : Attested) (p : ℕ) → In all (afterConfig s commit a p)
   unfolding numberOf afterConfig afterSimilar
   config-in s a p =
@@ -45,7 +39,7 @@ module _ (body : List ℕ) (time : ℕ) (commit : Commit) (permutation : List �
   transmit-in s waiting =
       either-in all (not (goodSender s waiting)) _ _ refl
       (either-in all (not (roomy waiting)) _ _ refl
-      (either-in all (not (isDone (bodyAnswer (s .config .n) 6 body))) _ _ (body-in (s .config .n))
+      (either-in all (not (isDone (bodyAnswer (s .config .n) 6 body))) _ _ (body-in all (s .config .n) 6 body refl refl refl)
       (either-in all (not (goodTime time && goodCommit commit)) _ _ refl
       (either-in all (not (permutes (s .config .n) permutation)) _ _ refl (config-in s (attestedIn body) (placeIn (s .config) permutation))))))
 
