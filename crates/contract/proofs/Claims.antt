@@ -24,7 +24,7 @@ use Rattle.frame.specs.Check.{bodyAnswer}
 use Rattle.report.specs.Stands.{notFalling, listFault, bitsFault, repeatFault, signersFault, attestedFault}
 use Rattle.frame.proofs.Checked.{checked-final}
 use Rattle.report.specs.Newer.{newer}
-use Rattle.report.proofs.Order.{newer-trans}
+use Rattle.report.proofs.Order.{not-older-trans}
 use Rattle.report.proofs.Stands.{list-fault-nothing, attested-fault-nothing}
 use Rattle.ledger.specs.declared.Account.{Account}
 use Rattle.ledger.specs.declared.Ledger.{Ledger}
@@ -97,13 +97,8 @@ rises-once c (withdraws member) = inl (same-commit (isDone (withdrawAnswer c mem
 pub commit-only-rises : CommitOnlyRises
 unfolding run
 commit-only-rises c [] = inl refl
-commit-only-rises c (call ∷ calls) = then (rises-once c call) (commit-only-rises (after c call) calls)
-  where
-    then : NotOlder c (after c call) → NotOlder (after c call) (run (after c call) calls) → NotOlder c (run (after c call) calls)
-    then (inl e) (inl h) = inl (h ∙ e)
-    then (inl e) (inr h) = inr (ap (λ (k : Commit). newer (run (after c call) calls .commit .epoch) (run (after c call) calls .commit .round) (k .epoch) (k .round)) (sym e) ∙ h)
-    then (inr e) (inl h) = inr (ap (λ (k : Commit). newer (k .epoch) (k .round) (c .commit .epoch) (c .commit .round)) h ∙ e)
-    then (inr e) (inr h) = inr (newer-trans _ _ (after c call .commit .epoch) (after c call .commit .round) _ _ h e)
+commit-only-rises c (call ∷ calls) =
+    not-older-trans (λ (k : Commit). k .epoch) (λ (k : Commit). k .round) (c .commit) (after c call .commit) (run (after c call) calls .commit) (rises-once c call) (commit-only-rises (after c call) calls)
 
 -- ---- sums
 

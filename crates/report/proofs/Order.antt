@@ -1,5 +1,5 @@
 -- The order of reports by epoch, then round: what the test says in numbers, and that it carries over a third report.
-use mathlib.Core.Path.{_≡_, refl, sym}
+use mathlib.Core.Path.{_≡_, refl, sym, ap, _∙_, subst}
 use mathlib.Core.Bool.{Bool, true, false, _&&_, _||_, false≢true}
 use mathlib.Core.Logic.{_⊎_, inl, inr}
 use Prim.Native.Nat.{ℕ, _≤_, _<_}
@@ -64,3 +64,16 @@ newer-not a b c d p = not-newer-of c d a b (cases (above a b c d p) (λ h. inl h
 
 pub newer-self : (a b : ℕ) → newer a b a b ≡ false
 newer-self a b = not-newer-of a b a b (inr (omega arith))
+
+-- the same one or a newer one, of anything that has an epoch and a round: what is newer than that is newer, and so it carries over a third
+module _ {A : Type 0} (epoch round : A → ℕ) where
+  abbrev NotOlder : A → A → Type 0
+  NotOlder a b = (b ≡ a) ⊎ (newer (epoch b) (round b) (epoch a) (round a) ≡ true)
+
+  pub newer-not-older : (e r : ℕ) (a b : A) → NotOlder a b → newer e r (epoch b) (round b) ≡ true → newer e r (epoch a) (round a) ≡ true
+  newer-not-older e r a b (inl same) h = ap (λ (x : A). newer e r (epoch x) (round x)) (sym same) ∙ h
+  newer-not-older e r a b (inr above) h = newer-trans e r (epoch b) (round b) (epoch a) (round a) h above
+
+  pub not-older-trans : (a b c : A) → NotOlder a b → NotOlder b c → NotOlder a c
+  not-older-trans a b c h (inl same) = subst (NotOlder a) (sym same) h
+  not-older-trans a b c h (inr above) = inr (newer-not-older (epoch c) (round c) a b h above)

@@ -14,7 +14,7 @@ use Rattle.quorum.proofs.Sort.{perm-refl, length-perm}
 use Rattle.quorum.proofs.Perms.{perm-same, perm-back, perm-last}
 use Rattle.frame.specs.Claims.{Each}
 use Rattle.report.specs.Newer.{newer}
-use Rattle.report.proofs.Order.{newer-trans}
+use Rattle.report.proofs.Order.{newer-not-older, not-older-trans}
 use Rattle.sender.specs.declared.Accepted.{Accepted}
 use Rattle.sender.specs.State.{taken}
 use Rattle.sender.specs.Waiting.{Waiting, waiting, earliest}
@@ -42,11 +42,11 @@ good-call w call g = go (outcome w call)
 abbrev accepted : Whole → Accepted
 accepted w = w .sender .accepted
 
-not-older-trans : (a b c : Accepted) → NotOlder a b → NotOlder b c → NotOlder a c
-not-older-trans a b c (inl e) (inl h) = inl (h ∙ e)
-not-older-trans a b c (inl e) (inr h) = inr (ap (λ (x : Accepted). newer (c .epoch) (c .round) (x .epoch) (x .round)) (sym e) ∙ h)
-not-older-trans a b c (inr e) (inl h) = inr (ap (λ (x : Accepted). newer (x .epoch) (x .round) (a .epoch) (a .round)) h ∙ e)
-not-older-trans a b c (inr e) (inr h) = inr (newer-trans (c .epoch) (c .round) (b .epoch) (b .round) (a .epoch) (a .round) h e)
+abbrev epochOf : Accepted → ℕ
+epochOf a = a .epoch
+
+abbrev roundOf : Accepted → ℕ
+roundOf a = a .round
 
 rises-call : (w : Whole) (call : Call) → NotOlder (accepted w) (accepted (after w call))
 rises-call w call = go (outcome w call)
@@ -63,7 +63,7 @@ rises-call w call = go (outcome w call)
 pub rises-run : (w : Whole) (calls : List Call) → NotOlder (accepted w) (accepted (run w calls))
 unfolding run
 rises-run w [] = inl refl
-rises-run w (call ∷ calls) = not-older-trans (accepted w) (accepted (after w call)) (accepted (run (after w call) calls)) (rises-call w call) (rises-run (after w call) calls)
+rises-run w (call ∷ calls) = not-older-trans epochOf roundOf (accepted w) (accepted (after w call)) (accepted (run (after w call) calls)) (rises-call w call) (rises-run (after w call) calls)
 
 -- ---- the configuration
 
@@ -96,8 +96,7 @@ rising-only epoch round (x ∷ y ∷ l) h = (h .1 .0, rising-only (x .report .ep
 -- and so than an older one
 rising-lower : (a b : Accepted) (l : List Waiting) → NotOlder a b → RisingFrom (b .epoch) (b .round) l → RisingFrom (a .epoch) (a .round) l
 rising-lower a b [] n h = tt
-rising-lower a b (x ∷ l) (inl e) h = (ap (λ (z : Accepted). newer (x .report .epoch) (x .report .round) (z .epoch) (z .round)) (sym e) ∙ h .0, h .1)
-rising-lower a b (x ∷ l) (inr n) h = (newer-trans (x .report .epoch) (x .report .round) (b .epoch) (b .round) (a .epoch) (a .round) (h .0) n, h .1)
+rising-lower a b (x ∷ l) n h = (newer-not-older epochOf roundOf (x .report .epoch) (x .report .round) a b n (h .0), h .1)
 
 rising-run : (w : Whole) (calls : List Call) → RisingFrom (accepted w .epoch) (accepted w .round) (queuedIn w calls)
 unfolding queuedIn
