@@ -1,65 +1,24 @@
--- A report whose body stands at the start of some bytes: what is cut off there is that report. So it is with the frame that brings a report.
-use mathlib.Core.Path.{_≡_, refl, sym, ap, ap₂, _∙_}
+-- A frame that brings a report: the report's body stands at its start.
+use mathlib.Core.Path.{_≡_, sym, ap, _∙_}
 use mathlib.Core.Bool.{true}
-use mathlib.Core.List.{List, [], _∷_, _++_, append-nil}
-use Prim.Native.Nat.{ℕ, _+_, _-_, _<_}
-use native.Mathlib.Omega.{arith}
-use lib.ListN.{length, length-append}
-use lib.Seq.{take-at}
-use Rattle.wire.specs.Numbers.{Bytes, part}
+use mathlib.Core.List.{List, [], _++_, append-nil}
+use Prim.Native.Nat.{ℕ, _-_}
+use lib.ListN.{length}
+use Rattle.wire.specs.Numbers.{Bytes}
 use Rattle.frame.specs.Message.{Attested, Message, final, finalEcho, kindOf}
-use Rattle.frame.specs.Table.{bodyLength, versionOf}
+use Rattle.frame.specs.Table.{versionOf}
 use Rattle.frame.specs.Encode.{attestedBytes, bodyBytes, trailerBytes, frameBytes}
-use Rattle.frame.specs.Decode.{attestedIn, lengthIn, trailerPlace, kindIn, bodyIn, messageIn}
+use Rattle.frame.specs.Decode.{lengthIn, trailerPlace, kindIn, bodyIn, messageIn}
 use Rattle.frame.specs.Range.{goodAttested, goodMessage}
 use Rattle.frame.specs.Claims.{WritableAttested, Writable}
 use Rattle.frame.proofs.Entries.{bytes-part}
-use Rattle.frame.proofs.Ranges.{good-attested-facts}
-use Rattle.frame.proofs.RoundTrip.{length-attested, list-at, signers-at, attested-front}
 use Rattle.frame.proofs.Fronts.{Stands}
 use Rattle.frame.proofs.Checked.{checked-frame}
 use Rattle.frame.proofs.Claims.{read-is-written, body-is-one}
-use Rattle.report.specs.Whole.{finalLength, partOf}
-use Rattle.report.proofs.Whole.{part-within, part-none}
 use Rattle.follower.specs.Claims.{Carries}
 use Rattle.node.specs.declared.Node.{Node}
 use Rattle.node.specs.Event.{Delivery}
-use Rattle.node.specs.Runs.{reportIn}
 use Rattle.node.proofs.Ruled.{Says, said-range, said-well}
-
--- ---- at the start of bytes
-
-report-in : (l : List ℕ) → 0 < length l → reportIn l ≡ attestedIn l ∷ []
-report-in [] h = absurd (omega arith)
-report-in (b ∷ l) h = refl
-
-module _ (n : ℕ) (a : Attested) (b : List ℕ) (s : Stands n a b) where
-  pub stands-long : finalLength b ≡ length (attestedBytes a)
-  stands-long =
-      ap finalLength (s .bytes)
-      ∙ ap₂ (bodyLength 6) (list-at a (s .writable) (s .rest) .count) (signers-at a (s .writable) (s .rest) .count)
-      ∙ sym (length-attested a (s .writable))
-
-  -- the part that holds it, and what that says
-  stands-part : partOf b 0 (length (attestedBytes a)) ≡ attestedBytes a
-  stands-part =
-      let long : length b ≡ length (attestedBytes a) + length (s .rest) = ap length (s .bytes) ∙ length-append (attestedBytes a) (s .rest) in
-      part-within b 0 (length (attestedBytes a)) (omega arith)
-      ∙ ap (λ (l : List ℕ). part l 0 (length (attestedBytes a))) (s .bytes)
-      ∙ take-at (attestedBytes a) (s .rest) (length (attestedBytes a)) refl
-
-  pub stands-handed : reportIn (partOf b 0 (length (attestedBytes a))) ≡ a ∷ []
-  unfolding bodyLength
-  stands-handed =
-      let w = s .writable in
-      let says = rw append-nil at (attested-front a w [] (good-attested-facts n a (s .good) .head .epoch .most)) in
-      ap reportIn stands-part ∙ report-in (attestedBytes a) (omega (arith, length-attested a w)) ∙ ap (λ (x : Attested). x ∷ []) says
-
--- an empty part hands out nothing
-pub none-handed : (b : List ℕ) → reportIn (partOf b 0 0) ≡ []
-none-handed b = ap reportIn (part-none b)
-
--- ---- in a frame that brings it
 
 carried-bytes : (m : Message) (a : Attested) → Carries m a → bodyBytes m ≡ attestedBytes a
 unfolding bodyBytes

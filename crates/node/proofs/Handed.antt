@@ -19,8 +19,9 @@ use Rattle.frame.proofs.Entries.{each-append}
 use Rattle.report.specs.declared.Fault.the-variants as fault
 use Rattle.report.specs.Newer.{newer}
 use Rattle.report.specs.Stands.{valuesOf}
-use Rattle.report.specs.Whole.{finalLength, partOf}
+use Rattle.report.specs.Whole.{finalLength, partOf, reportOf}
 use Rattle.report.proofs.Order.{newer-of}
+use Rattle.report.proofs.Bodies.{none-handed, stands-long, stands-handed}
 use Rattle.follower.specs.declared.Follower.{Follower}
 use Rattle.follower.specs.declared.Followed.{Followed}
 use Rattle.follower.specs.declared.Raised.the-variants as raised
@@ -35,14 +36,14 @@ use Rattle.node.specs.State.{epochOf, leaderNow}
 use Rattle.node.specs.Event.{Whole, Delivery, Event, delivers, Effect, done}
 use Rattle.node.specs.Effects.{pacing, moving, following, leading}
 use Rattle.node.specs.Calls.{step}
-use Rattle.node.specs.Runs.{settledIn, after, reportIn, arriving, handedBy, handedIn}
+use Rattle.node.specs.Runs.{settledIn, after, arriving, handedBy, handedIn}
 use Rattle.node.specs.Typed.{TypedEvent, TypedEvents}
 use Rattle.node.specs.Claims.{OneOf, Checked, HandedWasChecked, Rising, HandedOnceARound}
 use Rattle.node.proofs.Ruled.{Says}
 use Rattle.node.proofs.Taken.{Report, taken-request, taken-echo}
 use Rattle.node.proofs.Turns.{Turn, paced, moved, followed, led, step-turns, raising-epoch}
 use Rattle.node.proofs.Rounds.{leaves, round-stays}
-use Rattle.node.proofs.Bodies.{stands-long, stands-handed, none-handed, frame-stands, body-stands}
+use Rattle.node.proofs.Bodies.{frame-stands, body-stands}
 use Rattle.node.proofs.Kept.{Keeps, Brings, brought-checked, keeps-brings, keeps-after, begun-few, begun-keeps, all-one}
 
 -- ---- one event
@@ -60,25 +61,25 @@ data Hands (c : Config) (es : List Event) (n v : Node) : List Attested → Type 
   one : (a : Attested) → Checked c es a → a .epoch ≡ epochOf n → a .round ≡ n .follower .round → Closes n v → Hands c es n v (a ∷ [])
 
 -- an empty part, of whichever buffer, is nothing
-hands-none : (c : Config) (es : List Event) (w : Whole) (v : Node) (frame : List ℕ) → Hands c es (w .node) v (reportIn (partOf (cond (isSet (w .node .follower .kept)) (w .kept) frame) 0 0))
+hands-none : (c : Config) (es : List Event) (w : Whole) (v : Node) (frame : List ℕ) → Hands c es (w .node) v (reportOf (partOf (cond (isSet (w .node .follower .kept)) (w .kept) frame) 0 0))
 hands-none c es w v frame = subst (Hands c es (w .node) v) (sym (none-handed (cond (isSet (w .node .follower .kept)) (w .kept) frame))) nothing
 
 -- what the follower's rule hands out
 abbrev handsOut : Whole → Delivery → Followed → List Attested
-handsOut w d r = reportIn (handedPart (handedOf (r .handed) (isSet (w .node .follower .kept)) (w .kept) (bodyIn (d .frame))) (w .kept) (d .frame))
+handsOut w d r = reportOf (handedPart (handedOf (r .handed) (isSet (w .node .follower .kept)) (w .kept) (bodyIn (d .frame))) (w .kept) (d .frame))
 
 module _ (c : Config) (es : List Event) (w : Whole) (k : Keeps c es w) (d : Delivery) (is : OneOf (delivers d) es) (typed : Bytes (d .frame)) where
   -- the kept report goes out, or else the one that has come
-  echo-hands : (v : Node) (a : Attested) → Brings c es (w .node) d (finalEcho a) a → Report (w .node .follower) (epochOf (w .node)) (leaderNow (w .node)) (d .link) a → Closes (w .node) v → (b : Bool) → isSet (w .node .follower .kept) ≡ b → Hands c es (w .node) v (reportIn (partOf (cond b (w .kept) (d .frame)) 0 (cond b (finalLength (w .kept)) (finalLength (bodyIn (d .frame))))))
+  echo-hands : (v : Node) (a : Attested) → Brings c es (w .node) d (finalEcho a) a → Report (w .node .follower) (epochOf (w .node)) (leaderNow (w .node)) (d .link) a → Closes (w .node) v → (b : Bool) → isSet (w .node .follower .kept) ≡ b → Hands c es (w .node) v (reportOf (partOf (cond b (w .kept) (d .frame)) 0 (cond b (finalLength (w .kept)) (finalLength (bodyIn (d .frame))))))
   echo-hands v a b r closes true e =
       let h = k .held e in
-      let out = ap (λ (len : ℕ). reportIn (partOf (w .kept) 0 len)) (stands-long (c .n) (h .held-report) (w .kept) (h .stands)) ∙ stands-handed (c .n) (h .held-report) (w .kept) (h .stands) in
+      let out = ap (λ (len : ℕ). reportOf (partOf (w .kept) 0 len)) (stands-long (c .n) (h .held-report) (w .kept) (h .stands)) ∙ stands-handed (c .n) (h .held-report) (w .kept) (h .stands) in
       subst (Hands c es (w .node) v) (sym out) (one (h .held-report) (h .checked) (h .same-epoch) (h .same-round) closes)
   echo-hands v a b r closes false e =
       let n = w .node in
       let body = body-stands n d (finalEcho a) a (b .says) refl typed in
       let frame = frame-stands n d (finalEcho a) a (b .says) refl typed in
-      let out = ap (λ (len : ℕ). reportIn (partOf (d .frame) 0 len)) (stands-long (n .config .n) a (bodyIn (d .frame)) body) ∙ stands-handed (n .config .n) a (d .frame) frame in
+      let out = ap (λ (len : ℕ). reportOf (partOf (d .frame) 0 len)) (stands-long (n .config .n) a (bodyIn (d .frame)) body) ∙ stands-handed (n .config .n) a (d .frame) frame in
       subst (Hands c es n v) (sym out) (one a (brought-checked c es n d (finalEcho a) a b) (r .current .same) (r .round) closes)
 
   abbrev Gives : Followed → Type 0

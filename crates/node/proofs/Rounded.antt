@@ -30,8 +30,9 @@ use Rattle.outbox.specs.Written.{ownFrame, ownSignature}
 use Rattle.report.specs.Stands.{notFalling, listFault, bitsFault, repeatFault, signersFault, attestedFault}
 use Rattle.report.specs.Newer.{newer}
 use Rattle.report.specs.Kept.{keptBytes, keeping, cleared}
-use Rattle.report.specs.Whole.{finalLength, partOf}
+use Rattle.report.specs.Whole.{finalLength, partOf, reportOf}
 use Rattle.report.proofs.Kept.{kept-stands}
+use Rattle.report.proofs.Bodies.{none-handed, stands-long, stands-handed}
 use Rattle.pacemaker.specs.State.{goodPace}
 use Rattle.pacemaker.specs.Rules as pacemaker
 use Rattle.follower.specs.State.{isSet, goodFollower}
@@ -45,14 +46,13 @@ use Rattle.node.specs.Event.{Whole, whole, Delivery, Event, starts, deli
 use Rattle.node.specs.Answers.{startAnswer, firing, ending, timerAnswer, followerAnswer, leaderAnswer, messageAnswer, deliveryAnswer, eventAnswer, afterState}
 use Rattle.node.specs.Effects.{pacing, begun, moving, hearing, following, leading, effectOf}
 use Rattle.node.specs.Calls.{step, Out, framesOf}
-use Rattle.node.specs.Runs.{settledIn, after, run, Begun, Reachable, sentIn, reportIn, handedBy, handedIn, deliveries, Done, AllOf, highestFrom, Call, callAll, AllDone}
+use Rattle.node.specs.Runs.{settledIn, after, run, Begun, Reachable, sentIn, handedBy, handedIn, deliveries, Done, AllOf, highestFrom, Call, callAll, AllDone}
 use Rattle.node.specs.Typed.{TypedEvents}
 use Rattle.node.specs.Claims.{Checked, KeptChecked, Rising, countObserves, ClosedForm, SameRequest, graceAt, SameWritten}
 use Rattle.node.proofs.Written.{frames-stand}
 use Rattle.node.proofs.Closed.{good-stays-good}
 use Rattle.node.proofs.Runs.{configuration-stays, always-good}
 use Rattle.node.proofs.Rounds.{few-rounds-an-epoch, restored-waits-for-a-move}
-use Rattle.node.proofs.Bodies.{stands-long, stands-handed, none-handed}
 use Rattle.node.proofs.Kept.{kept-was-checked}
 use Rattle.node.proofs.Handed.{handed-was-checked, handed-once-a-round}
 use Rattle.node.proofs.Order.{after-any-list, epoch-order-decides-nothing, observation-order-decides-nothing}
@@ -252,10 +252,10 @@ attested-writable round =
     let b : WritableSignature blank = record { long = refl; bytes = bytes-replicate signatureSize } in
     record { values = (record { sfits = lit< tt }, (record { sfits = lit< tt }, (record { sfits = lit< tt }, tt))); signatures = (b, (b, tt)) }
 
-handed-out : (round : ℕ) → goodAttested 4 (attested round) ≡ true → reportIn (partOf (holding round) 0 (finalLength (holding round))) ≡ attested round ∷ []
+handed-out : (round : ℕ) → goodAttested 4 (attested round) ≡ true → reportOf (partOf (holding round) 0 (finalLength (holding round))) ≡ attested round ∷ []
 handed-out round good =
     let s = kept-stands 4 (attested round) (zeros keptSize) (lit≤ tt) good (attested-writable round) (lit≤ tt) in
-    ap (λ (len : ℕ). reportIn (partOf (holding round) 0 len)) (stands-long 4 (attested round) (holding round) s) ∙ stands-handed 4 (attested round) (holding round) s
+    ap (λ (len : ℕ). reportOf (partOf (holding round) 0 len)) (stands-long 4 (attested round) (holding round) s) ∙ stands-handed 4 (attested round) (holding round) s
 
 -- what a request clears
 cleared-again : cleared (holding 1) ≡ zeros keptSize

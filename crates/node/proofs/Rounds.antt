@@ -17,6 +17,7 @@ use Rattle.frame.specs.Message.{Signed, Message, newEpoch, observeReq, observe,
 use Rattle.frame.specs.Claims.{Each}
 use Rattle.frame.proofs.Entries.{each-append}
 use Rattle.report.specs.Stands.{valuesOf}
+use Rattle.report.proofs.Bodies.{none-handed}
 use Rattle.pacemaker.specs.declared.Sent.{Sent}
 use Rattle.pacemaker.specs.declared.Sent.the-variants as sent
 use Rattle.pacemaker.specs.State.{isStarted}
@@ -47,7 +48,6 @@ use Rattle.node.proofs.Sent.{announced-each}
 use Rattle.node.proofs.Taken.{taken-request, taken-live}
 use Rattle.node.proofs.Turns.{Turn, paced, moved, followed, led, step-turns, raising-epoch}
 use Rattle.node.proofs.Runs.{config-after}
-use Rattle.node.proofs.Bodies.{none-handed}
 
 -- ---- no epoch falls
 

@@ -11,7 +11,8 @@ use Rattle.config.specs.Codes.{isDone}
 use Rattle.config.specs.declared.Config.{Config}
 use Rattle.config.specs.declared.Saved.{Saved}
 use Rattle.frame.specs.Message.{Attested, Message}
-use Rattle.frame.specs.Decode.{epochIn, valueIn, observeSignature, attestedIn, kindIn, bodyIn}
+use Rattle.frame.specs.Decode.{epochIn, valueIn, observeSignature, kindIn, bodyIn}
+use Rattle.report.specs.Whole.{reportOf}
 use Rattle.follower.specs.Handed.{handedPart}
 use Rattle.leader.specs.Runs.{Observed}
 use Rattle.node.specs.State.{restoredNode}
@@ -66,14 +67,10 @@ arriving (starts time) = []
 arriving (delivers d) = d .frame
 arriving (fires t time) = []
 
--- the report that a step hands out, if it does: its part is not empty
-abbrev pub reportIn : List ℕ → List Attested
-reportIn [] = []
-reportIn (b ∷ bs) = attestedIn (b ∷ bs) ∷ []
-
+-- the report that a step hands out, if it does
 abbrev pub handedBy : Whole → Event → Step → List Attested
 handedBy w e (refused a) = []
-handedBy w e (done f) = reportIn (handedPart (f .handed) (w .kept) (arriving e))
+handedBy w e (done f) = reportOf (handedPart (f .handed) (w .kept) (arriving e))
 
 unfoldable pub handedIn : Whole → List Event → List Attested
 handedIn w [] = []

@@ -1,12 +1,13 @@
 -- What a body's checks leave to whoever reads on: the list, and the whole report, lie within the body.
 use mathlib.Core.Bool.{cond}
-use mathlib.Core.List.{List, []}
+use mathlib.Core.List.{List, [], _∷_}
 use Prim.Native.Nat.{ℕ, _+_, _-_, _*_, _≤_}
 use lib.Dec.{ltb}
 use lib.ListN.{length}
 use Rattle.wire.specs.Numbers.{part}
+use Rattle.frame.specs.Message.{Attested}
 use Rattle.frame.specs.Table.{shapeOf, bodyLength}
-use Rattle.frame.specs.Decode.{countIn, listPlace, signerCountIn}
+use Rattle.frame.specs.Decode.{countIn, listPlace, signerCountIn, attestedIn}
 
 -- a list whose entries have this stride
 pub record WholeList (stride : ℕ) (b : List ℕ) : Type 0 where
@@ -24,3 +25,8 @@ pub record WholeReport (b : List ℕ) : Type 0 where
 -- the bytes from start on, `len` of them; none where that part does not lie within the list
 abbrev pub partOf : List ℕ → ℕ → ℕ → List ℕ
 partOf b start len = cond (ltb (length b) start) [] (cond (ltb (length b - start) len) [] (part b start len))
+
+-- the report that a call hands out, if it does: its part is not empty
+abbrev pub reportOf : List ℕ → List Attested
+reportOf [] = []
+reportOf (b ∷ bs) = attestedIn (b ∷ bs) ∷ []

@@ -31,6 +31,8 @@ use Rattle.frame.specs.Range.{allMembers}
 use Rattle.frame.specs.Check.{bodyAnswer}
 use Rattle.report.specs.Newer.{newer}
 use Rattle.report.specs.Kept.{keptBytes}
+use Rattle.report.specs.Whole.{reportOf}
+use Rattle.report.proofs.Bodies.{good-short, none-handed}
 use Rattle.sender.specs.declared.Sender.{Sender}
 use Rattle.sender.specs.declared.Accepted.{Accepted}
 use Rattle.sender.specs.declared.Transmit.the-variants.{Leave}
@@ -39,14 +41,14 @@ use Rattle.sender.specs.State.{freshSender, slotIn, goodTimes, goodSlots
 use Rattle.sender.specs.Stage.{permutes, stageOf, stageFor, stagesOf, placeIn, waits}
 use Rattle.sender.specs.Waiting.{waitingBelow, waiting, earliestBelow, earliest, freeIn}
 use Rattle.sender.specs.Calls.{afterSimilar, afterConfig, afterBody, transmitAnswer, acceptedOf, withAccepted, queueing, dueAt, accepting, transmitted, transmitOf, early, timeoutAnswer, nothing, releasing, released, timeoutOf, handedPart}
-use Rattle.sender.specs.History.{Whole, Call, transmits, expires, after, run, queuedIn, removedIn, reportOf, handedBy}
+use Rattle.sender.specs.History.{Whole, Call, transmits, expires, after, run, queuedIn, removedIn, handedBy}
 use Rattle.sender.specs.Claims.{RefusalChangesNothing, FreshIsGood, GoodStaysGood, RefusedIsNoSender, OneResult, ConfigurationStays, DoneIsAccepted, AcceptsOnlyNewer, NotOlder, AcceptedOnlyRises, NothingIsLost, NothingWaitsAtFirst, Rising, QueuedOnlyRises, ifNewer, HandsOutWhatItRemoves, Stays, SlotsStay, TimeoutTakesTheEarliest, TimeoutsEmptyTheQueue, StageHoldsThePlace, BeyondTheLastStage, EveryPlaceIsTaken, Good, RemovesOne, Timeout, calling, Holds}
 use Rattle.sender.proofs.Places.{stage-holds, stage-beyond, member-among}
 use Rattle.sender.proofs.Facts.{sender-facts, good-sender, config-refused, transmit-passed, transmit-done, transmit-answer, timeout-passed, timeout-done, timeout-answer}
 use Rattle.sender.proofs.Queue.{heldAt, earliest-law}
 use Rattle.sender.proofs.Writes.{times-none, slots-each, each-slots}
 use Rattle.sender.proofs.Runs.{good-call, rises-run, config-run, queued-rises, slot-stays, moved-run, timeouts-empty}
-use Rattle.sender.proofs.Handed.{good-short, part-nothing, report-whole, handed-says, handed-whole, handed-nothing}
+use Rattle.sender.proofs.Handed.{report-whole, handed-says, handed-whole, handed-nothing}
 
 pub refusal-changes-nothing : RefusalChangesNothing
 unfolding transmitOf timeoutOf
@@ -175,7 +177,7 @@ hands-out-what-it-removes w time commit g =
     cases (test (newer (x .epoch) (x .round) (commit .epoch) (commit .round)))
     (λ q. report-whole (w .sender .config .n) (handedPart out bytes) (r .so .whole-body q) ∙ ap (λ (a : Attested). a ∷ []) (r .so .handed q) ∙ sym (gone ∙ rw q))
     (λ q. ap reportOf (r .so .held-back q) ∙ sym (gone ∙ rw q)))
-    (λ e. ap (λ (p : Part). reportOf (handedPart p bytes)) (refusal-changes-nothing w .timeout time commit e .2) ∙ ap reportOf (part-nothing bytes) ∙ rw e)
+    (λ e. ap (λ (p : Part). reportOf (handedPart p bytes)) (refusal-changes-nothing w .timeout time commit e .2) ∙ none-handed bytes ∙ rw e)
 
 pub timeouts-empty-the-queue : TimeoutsEmptyTheQueue
 timeouts-empty-the-queue = timeouts-empty

@@ -2,7 +2,6 @@
 pub mod Slots
 pub mod Stages
 pub mod Ready
-pub mod Bodies
 pub mod Places
 pub mod Facts
 pub mod Queue

@@ -21,11 +21,11 @@ use Rattle.frame.proofs.Access.{part-of-take}
 use Rattle.report.specs.Kept.{keptBytes}
 use Rattle.report.specs.Whole.{finalLength}
 use Rattle.report.proofs.Kept.{length-kept}
+use Rattle.report.proofs.Bodies.{attested-append}
 use Rattle.sender.specs.declared.Sender.{Sender}
 use Rattle.sender.specs.State.{slotIn, reportIn, taken, timeOf, goodTimes, goodSlots}
 use Rattle.sender.specs.Waiting.{freeIn}
 use Rattle.sender.specs.Calls.{withSlot}
-use Rattle.sender.proofs.Bodies.{attested-append}
 use Rattle.sender.proofs.Queue.{heldIn}
 
 -- ---- tables in range

@@ -6,6 +6,7 @@ use Rattle.config.specs.Codes.{isDone}
 use Rattle.config.specs.declared.Commit.{Commit}
 use Rattle.frame.specs.Message.{Attested}
 use Rattle.frame.specs.Decode.{attestedIn}
+use Rattle.report.specs.Whole.{reportOf}
 use Rattle.sender.specs.declared.Sender.{Sender}
 use Rattle.sender.specs.State.{reportIn, timeOf}
 use Rattle.sender.specs.Stage.{placeIn, waits}
@@ -51,11 +52,7 @@ removedBy w (expires time commit) =
     (record { time = timeOf (w .sender) slot; report = reportIn (w .slots) slot } ∷ [])
     []
 
--- the report that a call hands out, if it does: its part is not empty
-abbrev pub reportOf : List ℕ → List Attested
-reportOf [] = []
-reportOf (b ∷ bs) = attestedIn (b ∷ bs) ∷ []
-
+-- the report that a call hands out, if it does
 abbrev pub handedBy : Whole → Call → List Attested
 handedBy w (transmits body time commit permutation) = []
 handedBy w (expires time commit) = reportOf (handedPart (timeoutOf (w .sender) time commit (w .slots) .handed) (w .slots))
