@@ -3,6 +3,7 @@ use mathlib.Core.Bool.{true, _&&_}
 use mathlib.Core.List.{List, map}
 use mathlib.Core.Path.{_≡_, refl, sym, ap, _∙_}
 use Prim.Native.Nat.{ℕ, _+_, _*_, _≤_, _<_}
+use native.Mathlib.Nat.{le-trans}
 use native.Mathlib.Omega.{arith}
 use borrow.Author.Tests.{eqb-true, le-leb}
 use lib.ListN.{length, getD, drop}
@@ -16,7 +17,7 @@ use Rattle.frame.specs.Range.{goodEpoch, goodRound, goodEntries, goodObs
 use Rattle.frame.specs.Check.{bodyAnswer, frameAnswer}
 use Rattle.frame.proofs.Ranges.{OneTo, one-to, kind-cases, GoodHead, good-head-facts, GoodEntries, good-entries-facts, good-entries-map, good-attested-facts}
 use Rattle.frame.proofs.Entries.{length-entries, map-entries}
-use Rattle.frame.proofs.Readable.{length-monotone, final-fits, readable-exact}
+use Rattle.frame.proofs.Readable.{final-fits, readable-exact}
 use Rattle.frame.proofs.Framed.{Passed, passed-body, passed-all}
 
 -- ---- any body
@@ -178,7 +179,7 @@ checked-final-echo n b e = checked-final n b e
 -- it fits a kept buffer
 pub checked-fits : (n : ℕ) (b : List ℕ) → n ≤ members → CheckedFinal n b → length b ≤ keptSize
 checked-fits n b h f =
-    omega (arith, f .whole, length-monotone 6 (countIn b) n (signerCountIn b) n (f .list .count .most) (f .signers .most), final-fits n h)
+    omega (arith, f .whole, final-fits (countIn b) (signerCountIn b) (le-trans (f .list .count .most) h) (le-trans (f .signers .most) h))
 
 -- ---- frames
 

@@ -16,7 +16,7 @@ use Rattle.frame.specs.Decode.{countIn, signerCountIn, Readable}
 
 -- ---- lengths
 
-pub length-monotone : (kind m m′ s s′ : ℕ) → m ≤ m′ → s ≤ s′ → bodyLength kind m s ≤ bodyLength kind m′ s′
+length-monotone : (kind m m′ s s′ : ℕ) → m ≤ m′ → s ≤ s′ → bodyLength kind m s ≤ bodyLength kind m′ s′
 unfolding bodyLength
 length-monotone kind m m′ s s′ hm hs =
     let em = mul-le-mul-left (shapeOf kind .entry) hm in
@@ -45,9 +45,9 @@ length-most many limit h kind m s hm hs =
     le-trans (length-monotone kind m many s many hm hs) (leb-true (bodyLength kind many many) limit e)
 
 -- In a feed of at most `members` members a FINAL body fits a kept buffer, and a frame fits the outbox.
-pub final-fits : (n : ℕ) → n ≤ members → bodyLength 6 n n ≤ keptSize
+pub final-fits : (m s : ℕ) → m ≤ members → s ≤ members → bodyLength 6 m s ≤ keptSize
 unfolding table
-final-fits n h = length-most members keptSize refl 6 n n h h
+final-fits m s hm hs = length-most members keptSize refl 6 m s hm hs
 
 pub frame-fits : (kind m s : ℕ) → m ≤ members → s ≤ members → bodyLength kind m s + trailerLength ≤ outboxSize
 unfolding table

@@ -10,7 +10,7 @@ use native.Mathlib.Omega.{arith}
 use borrow.Author.Tests.{ltb-false}
 use lib.Dec.{ltb}
 use lib.IntN.{ℤ}
-use lib.ListN.{length, drop}
+use lib.ListN.{length}
 use mir.Syntax.{w64}
 use mir.Val.{Fits}
 use Rattle.config.specs.Limits.{members, keptSize, lastEpoch}
@@ -19,17 +19,14 @@ use Rattle.config.specs.declared.Commit.{Commit}
 use Rattle.config.specs.declared.Config.{Config}
 use Rattle.price.specs.Median.{medianOf}
 use Rattle.frame.specs.Message.{Signed, Attested, Message, newEpoch, observeReq, observe, reportReq, report, final, finalEcho}
-use Rattle.frame.specs.Table.{shapeOf}
 use Rattle.frame.specs.Encode.{attestedBytes}
-use Rattle.frame.specs.Decode.{roundIn, countIn, listPlace, listEnd, signerCountIn, observationAt, signerAt, signedIn, attestedIn, messageOf, bodyIn, messageIn}
+use Rattle.frame.specs.Decode.{roundIn, signedIn, attestedIn, messageOf, bodyIn, messageIn}
 use Rattle.frame.specs.Range.{goodAttested}
 use Rattle.frame.specs.Check.{bodyAnswer}
-use Rattle.frame.proofs.Entries.{length-entries}
-use Rattle.frame.proofs.Ranges.{good-attested-facts}
-use Rattle.frame.proofs.Readable.{final-fits, readable-long}
 use Rattle.report.specs.Stands.{valuesOf}
 use Rattle.report.specs.Whole.{WholeReport}
 use Rattle.report.specs.Kept.{keeping}
+use Rattle.report.proofs.Bodies.{good-short}
 use Rattle.pacemaker.specs.declared.Pace.{Pace}
 use Rattle.pacemaker.specs.declared.Paced.{Paced}
 use Rattle.pacemaker.specs.Rules.{progressOf}
@@ -147,11 +144,7 @@ handed-before c s j time commit kept body (observe e r v g) = refl
 handed-before c s j time commit kept body (report e r xs g) = refl
 
 kept-whole : (n : ℕ) (kept : List ℕ) → n ≤ members → keptSize ≤ length kept → goodAttested n (attestedIn kept) ≡ true → WholeReport kept
-kept-whole n kept g l h =
-    let f = good-attested-facts n (attestedIn kept) h in
-    let m = rw (length-entries observationAt (shapeOf 6 .entry) (countIn kept) (drop listPlace kept)) at (f .list .count .most) in
-    let s = rw (length-entries signerAt (shapeOf 6 .signer) (signerCountIn kept) (drop (listEnd kept + 1) kept)) at (f .signers .count .most) in
-    record { within = readable-long n kept (le-trans (final-fits n g) l) .signers m s }
+kept-whole n kept g l h = record { within = le-trans (good-short n kept g h) l }
 
 -- what is not handed out need not be whole
 quiet : {W : Type 0} {out : Bool} → out ≡ false → out ≡ true → W

@@ -19,7 +19,7 @@ use Rattle.frame.specs.Range.{goodAttested}
 use Rattle.frame.specs.Check.{bodyAnswer}
 use Rattle.frame.proofs.Ranges.{good-attested-facts}
 use Rattle.frame.proofs.Entries.{length-entries}
-use Rattle.frame.proofs.Readable.{length-monotone, final-fits}
+use Rattle.frame.proofs.Readable.{final-fits}
 use Rattle.frame.proofs.RoundTrip.{length-attested, list-at, signers-at, attested-front}
 use Rattle.frame.proofs.Fronts.{byte-same, part-same, entries-same, Stands}
 use Rattle.report.specs.Whole.{finalLength, partOf, reportOf}
@@ -68,13 +68,13 @@ module _ (b : List ℕ) where
       let whole = length-take-le (finalLength b) b long ∙ final-length-same b (take (finalLength b) b) (finalLength b) front-same (le-refl _) in
       ap₂ (λ (p q : Bool). cond (not p) Length (cond (not q) Range Done)) (eq-eqb _ _ whole) (ap (goodAttested n) attested-take ∙ good)
 
--- a body in range ends within its slot
+-- a report in range is short enough to be kept
 pub good-short : (n : ℕ) (b : List ℕ) → n ≤ members → goodAttested n (attestedIn b) ≡ true → finalLength b ≤ keptSize
 good-short n b h good =
     let f = good-attested-facts n (attestedIn b) good in
     let list = length-entries observationAt (shapeOf 6 .entry) (countIn b) (drop listPlace b) in
     let signers = length-entries signerAt (shapeOf 6 .signer) (signerCountIn b) (drop (listEnd b + 1) b) in
-    omega (arith, length-monotone 6 (countIn b) n (signerCountIn b) n (omega (arith, f .list .count .most)) (omega (arith, f .signers .count .most)), final-fits n h)
+    final-fits (countIn b) (signerCountIn b) (omega (arith, f .list .count .most)) (omega (arith, f .signers .count .most))
 
 -- ---- what a part says
 

@@ -3,6 +3,7 @@ use mathlib.Core.Bool.{true}
 use mathlib.Core.List.{List, _++_, append-assoc}
 use mathlib.Core.Path.{_≡_, _∙_}
 use Prim.Native.Nat.{ℕ, _+_, _-_, _≤_}
+use native.Mathlib.Nat.{le-trans}
 use native.Mathlib.Omega.{arith}
 use lib.ListN.{length, drop, replicate, length-append, length-replicate}
 use Rattle.config.specs.Limits.{members, keptSize}
@@ -12,7 +13,7 @@ use Rattle.frame.specs.Encode.{attestedBytes}
 use Rattle.frame.specs.Range.{goodAttested}
 use Rattle.frame.specs.Claims.{WritableAttested}
 use Rattle.frame.proofs.Ranges.{good-attested-facts}
-use Rattle.frame.proofs.Readable.{length-monotone, final-fits}
+use Rattle.frame.proofs.Readable.{final-fits}
 use Rattle.frame.proofs.RoundTrip.{length-attested}
 use Rattle.frame.proofs.Fronts.{Stands}
 use Rattle.report.specs.Kept.{keptBytes, keeping}
@@ -24,7 +25,7 @@ length-kept body h = length-append body (replicate (keptSize - length body) 0) �
 kept-fits : (n : ℕ) (a : Attested) → n ≤ members → goodAttested n a ≡ true → WritableAttested a → length (attestedBytes a) ≤ keptSize
 kept-fits n a h good w =
     let g = good-attested-facts n a good in
-    omega (arith, length-attested a w, length-monotone 6 (length (a .list)) n (length (a .signers)) n (g .list .count .most) (g .signers .count .most), final-fits n h)
+    omega (arith, length-attested a w, final-fits (length (a .list)) (length (a .signers)) (le-trans (g .list .count .most) h) (le-trans (g .signers .count .most) h))
 
 pub kept-stands : (n : ℕ) (a : Attested) (buffer : List ℕ) → n ≤ members → goodAttested n a ≡ true → WritableAttested a → keptSize ≤ length buffer → Stands n a (keeping buffer (attestedBytes a))
 kept-stands n a buffer few good w room =
