@@ -10,6 +10,7 @@ use Rattle.config.specs.Limits.{members}
 use Rattle.config.specs.declared.Config.{Config}
 use Rattle.config.specs.declared.Commit.{Commit}
 use Rattle.wire.specs.Numbers.{Bytes}
+use Rattle.quorum.specs.First.{OneOf}
 use Rattle.quorum.proofs.Cases.{cases, split}
 use Rattle.price.specs.Median.{medianOf}
 use Rattle.frame.specs.Message.{Signed, Attested, Message, newEpoch, observeReq, observe, reportReq, report, final, finalEcho}
@@ -38,7 +39,7 @@ use Rattle.node.specs.Effects.{pacing, moving, following, leading}
 use Rattle.node.specs.Calls.{step}
 use Rattle.node.specs.Runs.{settledIn, after, arriving, handedBy, handedIn}
 use Rattle.node.specs.Typed.{TypedEvent, TypedEvents}
-use Rattle.node.specs.Claims.{OneOf, Checked, HandedWasChecked, Rising, HandedOnceARound}
+use Rattle.node.specs.Claims.{Checked, HandedWasChecked, Rising, HandedOnceARound}
 use Rattle.node.proofs.Ruled.{Says}
 use Rattle.node.proofs.Taken.{Report, taken-request, taken-echo}
 use Rattle.node.proofs.Turns.{Turn, paced, moved, followed, led, step-turns, raising-epoch}

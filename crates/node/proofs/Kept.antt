@@ -11,6 +11,7 @@ use Rattle.config.specs.declared.Config.{Config}
 use Rattle.config.proofs.Facts.{good-facts}
 use Rattle.wire.specs.Numbers.{Bytes}
 use Rattle.wire.proofs.Overlay.{length-over}
+use Rattle.quorum.specs.First.{OneOf}
 use Rattle.price.specs.Median.{medianOf}
 use Rattle.frame.specs.Message.{Signed, Attested, Message, newEpoch, observeReq, observe, reportReq, report, final, finalEcho}
 use Rattle.frame.specs.Encode.{attestedBytes}
@@ -34,7 +35,7 @@ use Rattle.node.specs.Event.{Whole, Delivery, Event, delivers, Effect}
 use Rattle.node.specs.Effects.{pacing, moving, following, leading}
 use Rattle.node.specs.Runs.{settledIn, after, run, Begun}
 use Rattle.node.specs.Typed.{TypedEvent, TypedEvents}
-use Rattle.node.specs.Claims.{OneOf, Checked, KeptWasChecked}
+use Rattle.node.specs.Claims.{Checked, KeptWasChecked}
 use Rattle.node.proofs.Ruled.{Says}
 use Rattle.node.proofs.Taken.{Report, taken-final, taken-echo}
 use Rattle.node.proofs.Turns.{Turn, paced, moved, followed, led, step-turns, raising-epoch}

@@ -2,7 +2,6 @@
 -- `proofs/Rounded.antt` have runs that compute and meet the claims' hypotheses.
 use mathlib.Core.Path.{_≡_}
 use mathlib.Core.Bool.{Bool, true, false, cond, _&&_}
-use mathlib.Core.Logic.{_⊎_}
 use mathlib.Core.List.{List, [], _∷_, map}
 use Prim.Native.Nat.{ℕ, _+_, _-_, _*_, _≤_, max}
 use lib.Dec.{eqb}
@@ -19,7 +18,7 @@ use Rattle.config.specs.declared.Timer.{Timer}
 use Rattle.config.specs.declared.Timer.the-variants as timer
 use Rattle.wire.specs.Numbers.{part}
 use Rattle.quorum.specs.Counts.{reached}
-use Rattle.quorum.specs.First.{among, allSet}
+use Rattle.quorum.specs.First.{among, allSet, OneOf}
 use Rattle.quorum.specs.Sort.{Perm}
 use Rattle.frame.specs.Message.{Observation, Signed, Attested, Message, newEpoch, observeReq, observe, reportReq, report, final, finalEcho, kindOf}
 use Rattle.frame.specs.Decode.{attestedIn, kindIn, messageIn}
@@ -238,11 +237,6 @@ abbrev pub FlagsAreTheTimers : Type 0
 FlagsAreTheTimers = (w : Whole) (e : Event) (f : Effect) → step w e ≡ done f → Armed w e f
 
 -- ---- over runs, from a fresh or a restored node
-
--- x is one of a list's entries
-abbrev pub OneOf : Event → List Event → Type 0
-OneOf x [] = ⊥
-OneOf x (y ∷ l) = (x ≡ y) ⊎ OneOf x l
 
 -- one of the events delivered this report in a frame that passed, and with its bits it passed checks 14 to 17
 pub record Checked (c : Config) (es : List Event) (a : Attested) : Type 0 where

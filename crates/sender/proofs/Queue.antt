@@ -10,6 +10,7 @@ use borrow.Author.Tests.{ltb-true, ltb-false, eqb-true, eqb-false}
 use lib.Dec.{ltb, eqb}
 use lib.ListN.{length}
 use Rattle.config.specs.Limits.{slots}
+use Rattle.quorum.specs.First.{OneOf}
 use Rattle.quorum.specs.Sort.{Perm, then}
 use Rattle.quorum.proofs.Perms.{perm-same, perm-back, perm-last}
 use Rattle.frame.specs.Claims.{Each}
@@ -19,7 +20,7 @@ use Rattle.report.proofs.Order.{not-newer-trans, newer-not, newer-self}
 use Rattle.sender.specs.declared.Sender.{Sender}
 use Rattle.sender.specs.State.{taken, timeOf, reportIn}
 use Rattle.sender.specs.Waiting.{Waiting, waitingBelow, waiting, sooner, earliestBelow, earliest}
-use Rattle.sender.specs.Claims.{OneOf, NotAfter}
+use Rattle.sender.specs.Claims.{NotAfter}
 
 -- what a slot holds, and the list of that or of nothing
 abbrev pub heldAt : Sender → List ℕ → ℕ → Waiting

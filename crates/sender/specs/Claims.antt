@@ -12,7 +12,7 @@ use Rattle.config.specs.declared.Answer.{Answer}
 use Rattle.config.specs.declared.Answer.the-variants as answer
 use Rattle.config.specs.declared.Config.{Config}
 use Rattle.config.specs.declared.Commit.{Commit}
-use Rattle.quorum.specs.First.{among}
+use Rattle.quorum.specs.First.{among, OneOf}
 use Rattle.quorum.specs.Sort.{Perm}
 use Rattle.frame.specs.Message.{Attested}
 use Rattle.frame.specs.Decode.{attestedIn}
@@ -152,11 +152,6 @@ pub record Stays (w v : Whole) (slot : ℕ) : Type 0 where
 abbrev pub SlotsStay : Type 0
 SlotsStay =
     (w : Whole) (call : Call) (slot : ℕ) → Good w → taken (w .sender) slot ≡ true → (removedBy w call ≡ [] → Stays w (after w call) slot) × ((slot ≡ earliest (w .sender) (w .slots) → ⊥) → Stays w (after w call) slot)
-
--- x is one of a list's entries
-abbrev pub OneOf : Waiting → List Waiting → Type 0
-OneOf x [] = ⊥
-OneOf x (y ∷ l) = (x ≡ y) ⊎ OneOf x l
 
 -- "earliest time (ties: lower epoch, round ..)": x does not come after y
 abbrev pub NotAfter : Waiting → Waiting → Type 0
