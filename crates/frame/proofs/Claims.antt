@@ -22,7 +22,7 @@ use Rattle.frame.specs.Range.{allMembers, goodEpoch, goodRound, goodObse
 use Rattle.frame.specs.Check.{bodyAnswer, afterSender, afterKind, afterVersion, afterShort, frameAnswer}
 use Rattle.frame.specs.Claims.{WritableSignature, Each, WritableSigned, WritableAttested, Writable, ReadAs, WrittenIsRead, ReadIsWritten, ReadAlikeIsOne, FinalAtTheStart, FinalIsOne, BodyIsOne, Bared, BareIsBare, ReadWell, ReadIsGood}
 use Rattle.frame.proofs.Ranges.{good-entries-map, good-attested-facts}
-use Rattle.frame.proofs.Entries.{length-entries, bytes-part, signed-entry}
+use Rattle.frame.proofs.Entries.{each-map, length-entries, bytes-part, signed-entry}
 use Rattle.frame.proofs.RoundTrip.{length-counted, length-attested, attested-front, attested-forth, attested-good, body-back, Said, body-forth}
 use Rattle.frame.proofs.Checked.{checked-length}
 use Rattle.frame.proofs.Framed.{Passed, passed-all, frame-forth, kind-framed, body-framed, frame-back}
@@ -89,12 +89,8 @@ body-is-one n kind b k h e = sym (body-forth kind k b h (checked-length n kind b
 
 -- ---- signatures left out
 
-blank-writable : WritableSignature blank
+pub blank-writable : WritableSignature blank
 blank-writable = record { long = refl; bytes = bytes-replicate signatureSize }
-
-each-map : {A B : Type 0} (P : A → Type 0) (Q : B → Type 0) (f : A → B) → ((a : A) → P a → Q (f a)) → (l : List A) → Each P l → Each Q (map f l)
-each-map P Q f h [] w = tt
-each-map P Q f h (a ∷ l) w = (h a (w .0), each-map P Q f h l (w .1))
 
 signed-bare : (xs : List Signed) → Each WritableSigned xs → Each WritableSigned (map bareSigned xs)
 signed-bare xs w = each-map WritableSigned WritableSigned bareSigned (λ x u. record { value = u .value; signature = blank-writable }) xs w

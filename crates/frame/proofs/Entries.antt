@@ -34,6 +34,15 @@ pub each-append : {A : Type 0} (P : A → Type 0) (l m : List A) → Each P l �
 each-append P [] m p q = q
 each-append P (a ∷ l) m (p, r) q = (p, each-append P l m r q)
 
+-- and what follows from it, of each entry, or of what is made of each
+pub each-so : {A : Type 0} (P Q : A → Type 0) → ((a : A) → P a → Q a) → (l : List A) → Each P l → Each Q l
+each-so P Q h [] p = tt
+each-so P Q h (a ∷ l) (p, r) = (h a p, each-so P Q h l r)
+
+pub each-map : {A B : Type 0} (P : A → Type 0) (Q : B → Type 0) (f : A → B) → ((a : A) → P a → Q (f a)) → (l : List A) → Each P l → Each Q (map f l)
+each-map P Q f h [] p = tt
+each-map P Q f h (a ∷ l) (p, r) = (h a p, each-map P Q f h l r)
+
 pub length-entries : {A : Type 0} (says : List ℕ → A) (stride many : ℕ) (l : List ℕ) → length (entries says stride many l) ≡ many
 unfolding entries
 length-entries says stride zero l = refl

@@ -16,6 +16,7 @@ use Rattle.price.specs.Median.{medianOf}
 use Rattle.frame.specs.Message.{Signed, Attested, Message, newEpoch, observeReq, observe, reportReq, report, final, finalEcho}
 use Rattle.frame.specs.Encode.{attestedBytes}
 use Rattle.frame.specs.Claims.{Each}
+use Rattle.frame.proofs.Entries.{each-so}
 use Rattle.frame.proofs.Fronts.{Stands, stands-says}
 use Rattle.report.specs.declared.Fault.the-variants as fault
 use Rattle.report.specs.Stands.{valuesOf, attestedFault}
@@ -168,14 +169,10 @@ pub begun-keeps : (w : Whole) (es : List Event) → Begun w → Keeps (w .node .
 begun-keeps w es b =
     record { config = refl; room = b .kept; held = λ h. absurd (false≢true (sym (ap (λ (n : Node). isSet (n .follower .kept)) (b .node)) ∙ h)) }
 
-one-more : (e : Event) (es fs : List Event) → Each (λ x. OneOf x es) fs → Each (λ x. OneOf x (e ∷ es)) fs
-one-more e es [] h = tt
-one-more e es (x ∷ fs) (one, h) = (inr one, one-more e es fs h)
-
 -- each event is one of them
 pub all-one : (es : List Event) → Each (λ e. OneOf e es) es
 all-one [] = tt
-all-one (e ∷ es) = (inl refl, one-more e es es (all-one es))
+all-one (e ∷ es) = (inl refl, each-so (λ x. OneOf x es) (λ x. OneOf x (e ∷ es)) (λ x one. inr one) es (all-one es))
 
 pub kept-was-checked : KeptWasChecked
 kept-was-checked w es b typed h =

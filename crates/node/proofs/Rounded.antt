@@ -8,12 +8,11 @@ use native.Mathlib.Omega.{arith}
 use lib.Dec.{lit<, lit≤}
 use lib.IntN.{pos}
 use lib.ListN.{length}
-use Rattle.config.specs.Limits.{members, signatureSize, keptSize, signaturesSize, outboxSize}
+use Rattle.config.specs.Limits.{members, keptSize, signaturesSize, outboxSize}
 use Rattle.config.specs.Bounds.{goodFeed, goodConfig, noneEmpty, sum}
 use Rattle.config.specs.Codes.{numberOf, isDone}
 use Rattle.config.proofs.Facts.{and-true}
 use Rattle.wire.specs.Numbers.{part, beFrom, beNumber, beBytes}
-use Rattle.wire.proofs.Numbers.{bytes-replicate}
 use Rattle.wire.proofs.Overlay.{length-over, over-again}
 use Rattle.quorum.specs.Counts.{reached}
 use Rattle.quorum.specs.First.{firstAt}
@@ -25,7 +24,8 @@ use Rattle.frame.specs.Encode.{observationBytes, signerBytes, flat, headBytes, 
 use Rattle.frame.specs.Decode.{entries, attestedIn, messageOf}
 use Rattle.frame.specs.Check.{bodyAnswer, afterSender, afterKind, afterVersion, afterShort, frameAnswer}
 use Rattle.frame.specs.Range.{allMembers, goodAttested}
-use Rattle.frame.specs.Claims.{WritableSignature, Each, WritableAttested}
+use Rattle.frame.specs.Claims.{Each, WritableAttested}
+use Rattle.frame.proofs.Claims.{blank-writable}
 use Rattle.outbox.specs.Written.{ownFrame, ownSignature}
 use Rattle.report.specs.Stands.{notFalling, listFault, bitsFault, repeatFault, signersFault, attestedFault}
 use Rattle.report.specs.Newer.{newer}
@@ -249,8 +249,7 @@ module _ {w u : Whole} {e : Event} {es : List Event} {m : List Attested} where
 -- a report that is held is what is handed out
 attested-writable : (round : ℕ) → WritableAttested (attested round)
 attested-writable round =
-    let b : WritableSignature blank = record { long = refl; bytes = bytes-replicate signatureSize } in
-    record { values = (record { sfits = lit< tt }, (record { sfits = lit< tt }, (record { sfits = lit< tt }, tt))); signatures = (b, (b, tt)) }
+    record { values = (record { sfits = lit< tt }, (record { sfits = lit< tt }, (record { sfits = lit< tt }, tt))); signatures = (blank-writable, (blank-writable, tt)) }
 
 handed-out : (round : ℕ) → goodAttested 4 (attested round) ≡ true → reportOf (partOf (holding round) 0 (finalLength (holding round))) ≡ attested round ∷ []
 handed-out round good =

@@ -16,7 +16,7 @@ use Rattle.config.specs.declared.Config.{Config}
 use Rattle.config.specs.declared.Timer.the-variants as timer
 use Rattle.config.proofs.Facts.{and-true, good-facts}
 use Rattle.wire.specs.Numbers.{Bytes, part, beBytes}
-use Rattle.wire.proofs.Numbers.{bytes-drop, bytes-replicate, bytes-over}
+use Rattle.wire.proofs.Numbers.{bytes-drop, bytes-over}
 use Rattle.wire.proofs.Overlay.{length-over, part-over}
 use Rattle.quorum.specs.First.{bit}
 use Rattle.quorum.proofs.Cases.{cases, test}
@@ -28,9 +28,9 @@ use Rattle.frame.specs.Range.{goodEpoch, goodRound, oneToN, allMembers, goodEnt
 use Rattle.frame.specs.Claims.{WritableSignature, Each, WritableSigned, WritableAttested, ReadAs, ReadWell}
 use Rattle.frame.proofs.Ranges.{OneTo, one-to, good-head-facts, good-entries-facts, good-entries-map, good-attested-facts}
 use Rattle.frame.proofs.Readable.{frame-fits}
-use Rattle.frame.proofs.Entries.{each-append, observation-entry, signed-entry, part-signature}
+use Rattle.frame.proofs.Entries.{each-append, each-so, each-map, observation-entry, signed-entry, part-signature}
 use Rattle.frame.proofs.RoundTrip.{length-counted, length-attested}
-use Rattle.frame.proofs.Claims.{written-is-read}
+use Rattle.frame.proofs.Claims.{written-is-read, blank-writable}
 use Rattle.outbox.specs.Written.{ownFrame, ownSignature, valueOf, observed, Members}
 use Rattle.outbox.proofs.Frames.{signed, signer}
 use Rattle.pacemaker.specs.declared.Pace.{Pace}
@@ -181,11 +181,10 @@ module _ (n epoch : ℕ) (s : Leader) (signatures : List ℕ) (t : Tabled n epoc
 -- ---- answers
 
 own-writable : WritableSignature ownSignature
-own-writable = record { long = refl; bytes = bytes-replicate signatureSize }
+own-writable = blank-writable
 
 said-values : (xs : List Signed) → Each WritableSigned xs → Each (λ (o : Observation). SFits w64 (o .value)) (map (λ (x : Signed). x .said) xs)
-said-values [] w = tt
-said-values (x ∷ xs) (w, ws) = (w .value, said-values xs ws)
+said-values = each-map WritableSigned (λ (o : Observation). SFits w64 (o .value)) (λ (x : Signed). x .said) (λ x w. w .value)
 
 well-answer : (n : ℕ) (v : ℤ) (m : Message) → SFits w64 v → ReadWell n m → Each (ReadWell n) (answering v m)
 well-answer n v (observeReq e r) f w = (record { range = w .range; writable = (f, own-writable) }, tt)
@@ -325,17 +324,13 @@ well-ruled {w} t z p (by-following d m s h g) k = well-following w t p d m (k .o
 well-ruled {w} t z p (by-observe d e r v g s h) k = well-observe w t p (z .signatures) (d .link) e r v g
 well-ruled {w} t z p (by-report d e r xs g s h q) k = well-report w t p (z .signatures) (d .link) e r xs g (d .bits) (said-well (w .node) d s (k .frame)) h q
 
-each-map : {A : Type 0} (P Q : A → Type 0) → ((a : A) → P a → Q a) → (l : List A) → Each P l → Each Q l
-each-map P Q h [] p = tt
-each-map P Q h (a ∷ l) (p, r) = (h a p, each-map P Q h l r)
-
 pub sent-is-read : SentIsRead
 sent-is-read w e f t z k h =
     let (good, r) = step-ruled w e f h in
     let p = node-facts (w .node) (good-node (w .node) (w .kept) good) in
     let c = w .node .config in
     let g = good-facts c (p .config) in
-    each-map (ReadWell (c .n)) (λ m. ReadAs (ownFrame c m) (c .n) (c .number) (c .own) m)
+    each-so (ReadWell (c .n)) (λ m. ReadAs (ownFrame c m) (c .n) (c .number) (c .own) m)
     (λ m v. written-is-read (c .n) (c .number) (c .own) m (omega (arith, g .feed .members)) (t .node .number) (g .own .some) (g .own .most) (v .range) (v .writable))
     (f .sent) (well-ruled t z p r k)
 

@@ -10,9 +10,8 @@ use lib.IntN.{pos}
 use lib.ListN.{replicate, length-replicate}
 use mir.Syntax.{w64}
 use mir.Val.{SFits}
-use Rattle.config.specs.Limits.{keptSize, signatureSize}
+use Rattle.config.specs.Limits.{keptSize}
 use Rattle.config.specs.Codes.{numberOf}
-use Rattle.wire.proofs.Numbers.{bytes-replicate}
 use Rattle.quorum.specs.First.{firstAt, among}
 use Rattle.quorum.proofs.Claims.{middle-of-members}
 use Rattle.price.specs.Median.{medianOf}
@@ -20,8 +19,9 @@ use Rattle.frame.specs.Message.{Observation, Attested, noObservation, blank}
 use Rattle.frame.specs.Encode.{attestedBytes}
 use Rattle.frame.specs.Decode.{attestedIn}
 use Rattle.frame.specs.Range.{allMembers}
-use Rattle.frame.specs.Claims.{WritableSignature, WritableAttested}
+use Rattle.frame.specs.Claims.{WritableAttested}
 use Rattle.frame.proofs.Fronts.{stands-says}
+use Rattle.frame.proofs.Claims.{blank-writable}
 use Rattle.report.specs.declared.Fault.the-variants.{Nothing, Few, Falling, Twice, TooFewSigners, SignerTwice, ClearBit}
 use Rattle.report.specs.Stands.{membersOf, valuesOf, notFalling, listFault, bitsFault, repeatFault, signersFault, attestedFault}
 use Rattle.report.specs.Kept.{keeping}
@@ -102,6 +102,5 @@ kept-over-nines : attestedIn (keeping (replicate keptSize 9) (attestedBytes (rep
 unfolding allMembers
 kept-over-nines =
     let fits : (n : ℕ) → ltb n (2 ^ 63) ≡ true → SFits w64 (pos n) = λ n h. record { sfits = ltb-true n (2 ^ 63) h } in
-    let signature : WritableSignature blank = record { long = refl; bytes = bytes-replicate signatureSize } in
-    let writable : WritableAttested (report (1 ∷ 2 ∷ [])) = record { values = (fits 100 refl, (fits 105 refl, (fits 9000 refl, tt))); signatures = (signature, (signature, tt)) } in
+    let writable : WritableAttested (report (1 ∷ 2 ∷ [])) = record { values = (fits 100 refl, (fits 105 refl, (fits 9000 refl, tt))); signatures = (blank-writable, (blank-writable, tt)) } in
     kept-says-the-report 4 (report (1 ∷ 2 ∷ [])) (replicate keptSize 9) (omega arith) refl writable (omega (arith, length-replicate {A = ℕ} keptSize 9))
