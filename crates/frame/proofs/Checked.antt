@@ -1,4 +1,4 @@
--- What a body that passed LENGTH and RANGE tells whoever reads on, kind by kind, as plain facts that `omega` reads; and what a frame that passed tells.
+-- What a body that passed LENGTH and RANGE tells whoever reads on, kind by kind, as plain facts that `omega` reads.
 use mathlib.Core.Bool.{true, _&&_}
 use mathlib.Core.List.{List, map}
 use mathlib.Core.Path.{_≡_, refl, sym, ap, _∙_}
@@ -14,11 +14,11 @@ use Rattle.frame.specs.Message.{Observation, Signed, noObservation, noSi
 use Rattle.frame.specs.Table.{shapeOf, bodyLength}
 use Rattle.frame.specs.Decode.{epochIn, roundIn, countIn, listPlace, listEnd, signerCountIn, observationAt, signedAt, signerAt, observationsIn, signedIn, signersIn, attestedIn, messageOf, ListIn, SignersIn, Readable}
 use Rattle.frame.specs.Range.{goodEpoch, goodRound, goodEntries, goodObservations, goodAttested, goodMessage}
-use Rattle.frame.specs.Check.{bodyAnswer, frameAnswer}
+use Rattle.frame.specs.Check.{bodyAnswer}
 use Rattle.frame.proofs.Ranges.{OneTo, one-to, kind-cases, GoodHead, good-head-facts, GoodEntries, good-entries-facts, good-entries-map, good-attested-facts}
 use Rattle.frame.proofs.Entries.{length-entries, map-entries}
 use Rattle.frame.proofs.Readable.{final-fits, readable-exact}
-use Rattle.frame.proofs.Framed.{Passed, passed-body, passed-all}
+use Rattle.frame.proofs.Framed.{passed-body}
 
 -- ---- any body
 
@@ -180,9 +180,3 @@ checked-final-echo n b e = checked-final n b e
 pub checked-fits : (n : ℕ) (b : List ℕ) → n ≤ members → CheckedFinal n b → length b ≤ keptSize
 checked-fits n b h f =
     omega (arith, f .whole, final-fits (countIn b) (signerCountIn b) (le-trans (f .list .count .most) h) (le-trans (f .signers .most) h))
-
--- ---- frames
-
--- its body is then read by what stands above, of the body's answer
-pub checked-frame : (f : List ℕ) (n number link : ℕ) → frameAnswer f n number link ≡ Done → Passed f n number link
-checked-frame = passed-all

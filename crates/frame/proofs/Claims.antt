@@ -25,7 +25,7 @@ use Rattle.frame.proofs.Ranges.{good-entries-map, good-attested-facts}
 use Rattle.frame.proofs.Entries.{each-map, length-entries, bytes-part, signed-entry}
 use Rattle.frame.proofs.RoundTrip.{length-counted, length-attested, attested-front, attested-forth, attested-good, body-back, Said, body-forth}
 use Rattle.frame.proofs.Checked.{checked-length}
-use Rattle.frame.proofs.Framed.{Passed, passed-all, frame-forth, kind-framed, body-framed, frame-back}
+use Rattle.frame.proofs.Framed.{Passed, checked-frame, frame-forth, kind-framed, body-framed, frame-back}
 
 good-kind : (m : Message) → goodKind (kindOf m) ≡ true
 good-kind (newEpoch e) = refl
@@ -56,7 +56,7 @@ said f n number link h p =
 pub read-is-written : ReadIsWritten
 unfolding frameBytes
 read-is-written f n number link h e =
-    let p = passed-all f n number link e in
+    let p = checked-frame f n number link e in
     let s = said f n number link h p in
     frame-forth f n number link h p
     ∙ ap₂ (λ (kind : ℕ) (b : List ℕ). b ++ trailerBytes kind link (versionOf n) (length b) number) (sym (s .same)) (sym (s .bytes))
@@ -67,7 +67,7 @@ read-alike-is-one f g n number link hf hg ef eg e =
 
 pub read-is-good : ReadIsGood
 read-is-good f n number link h e =
-    let p = passed-all f n number link e in
+    let p = checked-frame f n number link e in
     record { range = p .range; writable = said f n number link h p .writable }
 
 -- ---- bodies alone

@@ -57,9 +57,9 @@ pub record Passed (f : List ℕ) (n number link : ℕ) : Type 0 where
   pub body : goodLength (kindIn f) (bodyIn f) ≡ true
   pub range : goodMessage n (messageOf (kindIn f) (bodyIn f)) ≡ true
 
-pub passed-all : (f : List ℕ) (n number link : ℕ) → frameAnswer f n number link ≡ Done → Passed f n number link
+pub checked-frame : (f : List ℕ) (n number link : ℕ) → frameAnswer f n number link ≡ Done → Passed f n number link
 unfolding frameAnswer afterShort afterVersion afterKind afterSender numberOf
-passed-all f n number link e =
+checked-frame f n number link e =
     let p = stage-passed itself (tooShort f) Short (afterShort f n number link) refl (ap isDone e) in
     let q = stage-passed itself (not (eqb (versionIn f) (versionOf n)) || not (eqb (numberIn f) number)) Version (afterVersion f n link) refl (p .1) in
     let r = stage-passed itself (not (goodKind (kindIn f))) Kind (afterKind f n link) refl (q .1) in

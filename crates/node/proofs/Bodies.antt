@@ -13,7 +13,7 @@ use Rattle.frame.specs.Range.{goodAttested, goodMessage}
 use Rattle.frame.specs.Claims.{WritableAttested, Writable}
 use Rattle.frame.proofs.Entries.{bytes-part}
 use Rattle.frame.proofs.Fronts.{Stands}
-use Rattle.frame.proofs.Checked.{checked-frame}
+use Rattle.frame.proofs.Framed.{checked-frame}
 use Rattle.frame.proofs.Claims.{read-is-written, body-is-one}
 use Rattle.follower.specs.Claims.{Carries}
 use Rattle.node.specs.declared.Node.{Node}

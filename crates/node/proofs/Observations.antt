@@ -22,7 +22,8 @@ use Rattle.frame.specs.Message.{Message, observe}
 use Rattle.frame.specs.Decode.{epochIn, roundIn, valueIn, observeSignature, kindIn, bodyIn, messageOf, messageIn}
 use Rattle.frame.specs.Check.{bodyAnswer}
 use Rattle.frame.proofs.Entries.{length-part}
-use Rattle.frame.proofs.Checked.{checked-frame, checked-observe}
+use Rattle.frame.proofs.Framed.{checked-frame}
+use Rattle.frame.proofs.Checked.{checked-observe}
 use Rattle.follower.proofs.Rules.{mark-stays}
 use Rattle.follower.proofs.Findings.{finding-taken}
 use Rattle.leader.specs.declared.Leader.{Leader}

@@ -17,7 +17,7 @@ use Rattle.config.proofs.Facts.{and-true}
 use Rattle.frame.specs.Decode.{kindIn, bodyIn, attestedIn}
 use Rattle.frame.specs.Range.{goodAttested}
 use Rattle.frame.specs.Check.{frameAnswer}
-use Rattle.frame.proofs.Checked.{checked-frame}
+use Rattle.frame.proofs.Framed.{checked-frame}
 use Rattle.follower.specs.State.{isSet}
 use Rattle.node.specs.declared.Node.{Node}
 use Rattle.node.specs.declared.Fired.{Fired}

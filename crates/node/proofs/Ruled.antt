@@ -18,7 +18,7 @@ use Rattle.frame.specs.Range.{goodMessage}
 use Rattle.frame.specs.Claims.{ReadAs, ReadWell}
 use Rattle.frame.proofs.Ranges.{OneTo}
 use Rattle.frame.proofs.Entries.{bytes-part}
-use Rattle.frame.proofs.Checked.{checked-frame}
+use Rattle.frame.proofs.Framed.{checked-frame}
 use Rattle.frame.proofs.Claims.{body-is-one, read-is-good}
 use Rattle.pacemaker.specs.declared.Paced.{Paced}
 use Rattle.pacemaker.specs.Rules as pacemaker

@@ -4,8 +4,7 @@ use borrow.Author.Tests.{eqb-true}
 use denote.Ref.{now}
 use Rattle.config.proofs.Facts.{done-only}
 use Rattle.frame.proofs.Ranges.{one-to}
-use Rattle.frame.proofs.Framed.{Passed}
-use Rattle.frame.proofs.Checked.{checked-frame}
+use Rattle.frame.proofs.Framed.{Passed, checked-frame}
 use borrow.Author.Needs.{needs}
 use Rattle.frames.proofs.reading.read_frame.Statement.{statement}
 use Rattle.frames.proofs.reading.read_frame.Tie as tie

@@ -6,8 +6,7 @@ use borrow.Author.Tests.{not-true, not-false}
 use denote.Ref.{now}
 use Rattle.config.specs.Bounds.{goodTime, goodCommit}
 use Rattle.config.specs.Codes.{numberOf}
-use Rattle.frame.proofs.Framed.{Passed}
-use Rattle.frame.proofs.Checked.{checked-frame}
+use Rattle.frame.proofs.Framed.{Passed, checked-frame}
 use Rattle.node.specs.Answers.{deliveryAnswer}
 use Rattle.node.proofs.Ready.{sound-frame}
 use Rattle.node.proofs.Node.after_frame.Statement.{statement}

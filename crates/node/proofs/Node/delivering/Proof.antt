@@ -6,8 +6,8 @@ use denote.Ref.{now}
 use mir.Syntax.{w64}
 use mir.ValLaws.{toZ-ofZ}
 use Rattle.frame.specs.Decode.{messageOf, messageIn}
-use Rattle.frame.proofs.Framed.{Passed}
-use Rattle.frame.proofs.Checked.{checked-frame, checked-newepoch}
+use Rattle.frame.proofs.Framed.{Passed, checked-frame}
+use Rattle.frame.proofs.Checked.{checked-newepoch}
 use Rattle.node.specs.Event.{whole, delivery}
 use Rattle.node.specs.Ready.{Sound}
 use Rattle.node.proofs.Ready.{sound-frame}

@@ -9,8 +9,7 @@ use mir.ValLaws.{toZ-ofZ}
 use Rattle.config.specs.Limits.{members}
 use Rattle.config.proofs.Facts.{good-facts}
 use Rattle.frame.specs.Decode.{messageIn, messageOf}
-use Rattle.frame.proofs.Framed.{Passed}
-use Rattle.frame.proofs.Checked.{checked-frame}
+use Rattle.frame.proofs.Framed.{Passed, checked-frame}
 use Rattle.follower.specs.declared.Followed.{Followed}
 use Rattle.follower.specs.Rules.{followOf}
 use Rattle.node.specs.Ready.{Sound}
