@@ -52,7 +52,7 @@ good-head-facts e r h =
 -- ---- lists
 
 module _ {A : Type 0} (n : ℕ) (member : A → ℕ) where
-  members-each : (l : List A) → allMembers n member l ≡ true → (i : ℕ) (none : A) → i < length l → OneTo n (member (getD l i none))
+  pub members-each : (l : List A) → allMembers n member l ≡ true → (i : ℕ) (none : A) → i < length l → OneTo n (member (getD l i none))
   unfolding allMembers
   members-each [] h i none k = absurd (not-suc-le-zero k)
   members-each (a ∷ l) h zero none k = one-to n (member a) (and-true (oneToN n (member a)) (allMembers n member l) h .0)

@@ -1,19 +1,16 @@
 -- Lists of entries laid over a slice one after another: how long they are, and the turn of every loop that writes one.
 use mathlib.Core.Path.{_≡_, refl, sym, ap, _∙_}
 use mathlib.Core.List.{List, [], _∷_, _++_, map, append-assoc, append-nil}
-use Prim.Native.Nat.{ℕ, zero, suc, _+_, _*_, _≤_, _<_}
-use native.Mathlib.Nat.{add-comm, zero-mul, suc-mul, not-suc-le-zero, le-of-suc-le-suc}
+use Prim.Native.Nat.{ℕ, suc, _+_, _*_, _≤_, _<_}
+use native.Mathlib.Nat.{add-comm, zero-mul, suc-mul}
 use native.Mathlib.Numerals.{add-one}
 use native.Mathlib.Omega.{arith}
-use borrow.Author.Tests.{leb-true}
-use lib.Dec.{leb}
 use lib.ListN.{length, getD, take, set, length-append, length-map, List·getD-map}
 use lib.Seq.{take-suc, take-all, getD-take, length-take-le}
-use Rattle.config.proofs.Facts.{and-true}
 use Rattle.wire.specs.Overlay.{over}
 use Rattle.wire.proofs.Overlay.{over-none, over-one, over-then, length-over}
 use Rattle.frame.specs.Encode.{flat, countedBytes}
-use Rattle.frame.specs.Range.{oneToN, allMembers}
+use Rattle.frame.proofs.Ranges.{members-each}
 use Rattle.outbox.specs.Written.{Members}
 
 -- ---- one after another
@@ -37,13 +34,7 @@ laid-counted bytes xs l l′ at many e el = laid-behind l l′ at (length xs) (f
 -- ---- members
 
 pub member-at : (n : ℕ) (order : List ℕ) (i : ℕ) → Members n order → i < length order → (1 ≤ getD order i 0) × (getD order i 0 ≤ n)
-unfolding allMembers
-member-at n [] i h k = absurd (not-suc-le-zero k)
-member-at n (x ∷ order) zero h k =
-    let p = and-true (leb 1 x) (leb x n) (and-true (oneToN n x) (allMembers n (λ x. x) order) h .0) in
-    (leb-true 1 x (p .0), leb-true x n (p .1))
-member-at n (x ∷ order) (suc i) h k =
-    member-at n order i (and-true (oneToN n x) (allMembers n (λ x. x) order) h .1) (le-of-suc-le-suc k)
+member-at n order i h k = let m = members-each n (λ x. x) order h i 0 k in (m .least, m .most)
 
 -- ---- entries of one length
 
