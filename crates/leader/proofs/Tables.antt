@@ -20,6 +20,7 @@ use Rattle.quorum.proofs.Cases.{cases, split}
 use Rattle.quorum.proofs.First.{distinct-cons, distinct-apart}
 use Rattle.quorum.proofs.Marks.{marks-once}
 use Rattle.quorum.proofs.Sort.{perm-map, length-perm}
+use Rattle.quorum.proofs.Perms.{distinct-perm}
 use Rattle.frame.proofs.Framed.{or-false}
 use Rattle.leader.specs.declared.Leader.{Leader}
 use Rattle.leader.specs.State.{inGrace}
@@ -27,7 +28,6 @@ use Rattle.leader.specs.Takes.{observedBy}
 use Rattle.leader.specs.Rules.{withObservation, withGrace, observing, observeSigned}
 use Rattle.leader.specs.Runs.{Observed, FromMembers, NoneObserved, fromOf, observeAll, signAll}
 use Rattle.leader.proofs.Cases.{observing-cases}
-use Rattle.leader.proofs.Orders.{distinct-perm}
 
 -- ---- two observations of different members
 
