@@ -1,8 +1,9 @@
 -- Laws of marks: a first mark counts for one, a second for nothing; marks are flags.
 use mathlib.Core.Path.{_≡_, refl, ap, sym, _∙_}
-use mathlib.Core.Bool.{Bool, true, false, _&&_, and-assoc, and-true, and-false, false≢true}
+use mathlib.Core.Bool.{Bool, true, false, _&&_, and-assoc, and-true, and-false, and-eq-true-iff}
 use mathlib.Core.List.{List, [], _∷_}
 use Prim.Native.Nat.{ℕ, zero, suc, _≤_, _<_}
+use native.Mathlib.Nat.{le-refl}
 use native.Mathlib.Omega.{arith}
 use borrow.Author.Tests.{eqb-true, leb-true, le-leb}
 use lib.Dec.{eqb, leb}
@@ -48,18 +49,17 @@ flags-larger marks i most h inv more = rw (flags-suc marks i h, ← inv) (decide
 pub flags-not-larger : (marks : List ℕ) (i most : ℕ) → i < length marks → leb most 1 ≡ flags (take i marks) → getD marks i 0 ≤ most → leb most 1 ≡ flags (take (suc i) marks)
 flags-not-larger marks i most h inv less = rw (flags-suc marks i h, ← inv) (decides-nothing most (getD marks i 0) (leb most 1) refl less)
 
-both-true : (a b : Bool) → a && b ≡ true → (a ≡ true) × (b ≡ true)
-both-true true b e = (refl, e)
-both-true false b e = absurd (false≢true e)
-
--- all places are flags after one is marked, and where none is
-pub flags-mark : (marks : List ℕ) (place : ℕ) → flags marks ≡ true → flags (mark marks place) ≡ true
+-- all places are flags after a flag is put into one, or a mark, and where there is none
+pub flags-set : (marks : List ℕ) (place flag : ℕ) → flag ≤ 1 → flags marks ≡ true → flags (set marks place flag) ≡ true
 unfolding flags
-flags-mark [] place e = e
-flags-mark (m ∷ marks) zero e = both-true (leb m 1) (flags marks) e .1
-flags-mark (m ∷ marks) (suc place) e =
-    let p = both-true (leb m 1) (flags marks) e in
-    rw (p .0) (flags-mark marks place (p .1))
+flags-set [] place flag h e = e
+flags-set (m ∷ marks) zero flag h e = rw (le-leb flag 1 h) (and-eq-true-iff (leb m 1) (flags marks) .0 e .1)
+flags-set (m ∷ marks) (suc place) flag h e =
+    let p = and-eq-true-iff (leb m 1) (flags marks) .0 e in
+    rw (p .0) (flags-set marks place flag h (p .1))
+
+pub flags-mark : (marks : List ℕ) (place : ℕ) → flags marks ≡ true → flags (mark marks place) ≡ true
+flags-mark marks place e = flags-set marks place 1 (le-refl 1) e
 
 pub flags-none : (n : ℕ) → flags (replicate n 0) ≡ true
 unfolding flags

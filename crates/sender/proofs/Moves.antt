@@ -15,6 +15,7 @@ use Rattle.config.specs.declared.Commit.{Commit}
 use Rattle.config.proofs.Facts.{good-facts}
 use Rattle.wire.proofs.Overlay.{length-over}
 use Rattle.quorum.specs.Sort.{Perm}
+use Rattle.quorum.proofs.Marks.{flags-set}
 use Rattle.quorum.proofs.Perms.{perm-same, perm-back}
 use Rattle.frame.specs.Decode.{attestedIn}
 use Rattle.frame.specs.Range.{goodAttested}
@@ -28,7 +29,7 @@ use Rattle.sender.specs.Claims.{Good, Stays}
 use Rattle.sender.proofs.Slots.{body-fits, free-within}
 use Rattle.sender.proofs.Facts.{SenderGood, sender-facts, good-sender, TransmitPassed}
 use Rattle.sender.proofs.Queue.{heldAt, heldIn, below-same, below-moved, earliest-law}
-use Rattle.sender.proofs.Writes.{flags-set, times-set, free-unmarked, taken-here, time-here, taken-other, time-other, held-other, report-here, kept-other, report-other, slots-each, each-slots, good-written}
+use Rattle.sender.proofs.Writes.{times-set, free-unmarked, taken-here, time-here, taken-other, time-other, held-other, report-here, kept-other, report-other, slots-each, each-slots, good-written}
 use Rattle.sender.proofs.Outcomes.{dueFor, accepts, queues, removes}
 
 facts : (w : Whole) → Good w → SenderGood (w .sender) (w .slots)

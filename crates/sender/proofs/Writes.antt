@@ -13,7 +13,7 @@ use Rattle.config.specs.Limits.{keptSize, slots, lastTime, longestDelay}
 use Rattle.config.proofs.Facts.{and-true}
 use Rattle.wire.specs.Overlay.{over}
 use Rattle.wire.proofs.Overlay.{take-over, over-drop, part-over}
-use Rattle.quorum.specs.Marks.{flags, marked}
+use Rattle.quorum.specs.Marks.{marked}
 use Rattle.quorum.proofs.Cases.{cases, split}
 use Rattle.frame.specs.Range.{goodAttested}
 use Rattle.frame.specs.Decode.{attestedIn}
@@ -29,14 +29,6 @@ use Rattle.sender.specs.Calls.{withSlot}
 use Rattle.sender.proofs.Queue.{heldIn}
 
 -- ---- tables in range
-
-pub flags-set : (marks : List ℕ) (place flag : ℕ) → flag ≤ 1 → flags marks ≡ true → flags (set marks place flag) ≡ true
-unfolding flags
-flags-set [] place flag h e = e
-flags-set (m ∷ marks) zero flag h e = rw (le-leb flag 1 h) (and-true (leb m 1) (flags marks) e .1)
-flags-set (m ∷ marks) (suc place) flag h e =
-    let p = and-true (leb m 1) (flags marks) e in
-    rw (p .0) (flags-set marks place flag h (p .1))
 
 pub times-set : (times : List ℕ) (place time : ℕ) → time ≤ lastTime + longestDelay → goodTimes times ≡ true → goodTimes (set times place time) ≡ true
 unfolding goodTimes
