@@ -1,5 +1,5 @@
 -- The claims of specs/Claims.antt, each proved, and instances that compute.
-use mathlib.Core.Bool.{Bool, true, false, not, cond, _&&_}
+use mathlib.Core.Bool.{not, _&&_}
 use mathlib.Core.List.{[], _∷_}
 use mathlib.Core.Path.{_≡_, refl}
 use Prim.Native.Nat.{ℕ, _≤_, zero-le}
@@ -9,6 +9,7 @@ use lib.ListN.{length, length-append, length-replicate}
 use Rattle.config.specs.Limits.{lastEpoch, frameSize, keptSize, signaturesSize}
 use Rattle.config.specs.Bounds.{noneEmpty, sum, goodFeed, goodConfig}
 use Rattle.config.specs.Codes.{numberOf, isDone}
+use Rattle.quorum.proofs.Cases.{either}
 use Rattle.node.specs.Calls.{freshOf, restoreOf, restoreAnswer}
 use Rattle.epochline.specs.Decimal.{decimalFrom, allDigits, valueFrom, isNumber}
 use Rattle.epochline.specs.Lines.{newline, linesFrom, spaceIn, commandOf, configIn}
@@ -35,25 +36,24 @@ four-short a b c d =
     let s = decimal-short 10 d in
     simp length-append (omega arith)
 
-either-short : (t : Bool) (u v : Turn) → length (u .prints) ≤ printedSize → length (v .prints) ≤ printedSize → length (cond t u v .prints) ≤ printedSize
-either-short true u v p q = p
-either-short false u v p q = q
+abbrev Short : Turn → Type 0
+Short t = length (t .prints) ≤ printedSize
 
-line-short : (m : Machine) → length (lineTurn m .prints) ≤ printedSize
+line-short : (m : Machine) → Short (lineTurn m)
 unfolding lineTurn firstTurn laterTurn noConfiguration printed
 line-short m =
-    either-short (eqb (m .program .phase) first) _ _
-    (either-short (isDone (freshOf (configIn (lineOf (m .program))) .answer)) _ _ zero-le (four-short 12 0 0 0))
-    (either-short (eqb (m .program .phase) going) _ _
-    (either-short (ends (commandOf (lineOf (m .program)))) _ _ zero-le (four-short _ _ _ _))
-    zero-le)
+    either Short (eqb (m .program .phase) first) _ _
+    (λ _. either Short (isDone (freshOf (configIn (lineOf (m .program))) .answer)) _ _ (λ _. zero-le) (λ _. four-short 12 0 0 0))
+    (λ _. either Short (eqb (m .program .phase) going) _ _
+    (λ _. either Short (ends (commandOf (lineOf (m .program)))) _ _ (λ _. zero-le) (λ _. four-short _ _ _ _))
+    (λ _. zero-le))
 
 pub prints-are-short : PrintsAreShort
 unfolding byteTurn endTurn
 prints-are-short m =
     record {
-      byte = λ b. either-short (eqb b newline) _ _ (line-short m) zero-le;
-      last = either-short (eqb (m .program .len) 0 && not (eqb (m .program .phase) first)) _ _ zero-le (line-short m);
+      byte = λ b. either Short (eqb b newline) _ _ (λ _. line-short m) (λ _. zero-le);
+      last = either Short (eqb (m .program .len) 0 && not (eqb (m .program .phase) first)) _ _ (λ _. zero-le) (λ _. line-short m);
     }
 
 -- ---- instances that compute

@@ -1,5 +1,5 @@
 -- The laws of decimals: what their digits are, how many there are, and what number they say.
-use mathlib.Core.Bool.{Bool, true, false, not, cond, _&&_, _||_, and-assoc, or-true}
+use mathlib.Core.Bool.{Bool, true, false, not, _&&_, _||_, and-assoc, or-true}
 use mathlib.Core.List.{List, [], _∷_, _++_}
 use mathlib.Core.Path.{_≡_, refl, ap, ap₂, _∙_}
 use Prim.Native.Nat.{ℕ, zero, suc, _+_, _-_, _*_, _/_, _%_, _^_, _≤_, _<_}
@@ -13,6 +13,7 @@ use lib.Seq.{drop-cons, getD-at}
 use Rattle.wire.specs.Overlay.{over}
 use Rattle.wire.proofs.Overlay.{set-over}
 use Rattle.config.proofs.Facts.{and-true}
+use Rattle.quorum.proofs.Cases.{either}
 use Rattle.epochline.specs.Decimal.{decimalFrom, decimal, allDigits, valueFrom, valueOf, isNumber}
 
 -- ---- written
@@ -20,11 +21,7 @@ use Rattle.epochline.specs.Decimal.{decimalFrom, decimal, allDigits, val
 -- what holds of one digit, and of the digits in front with one more, holds of every number
 decimal-cases : (P : List ℕ → Type 0) (places x : ℕ) → (x < 10 → P ((48 + x) ∷ [])) → (10 ≤ x → P (decimalFrom places (x / 10) ++ ((48 + x % 10) ∷ []))) → P (decimalFrom (suc places) x)
 unfolding decimalFrom
-decimal-cases P places x f g = go (ltb x 10) refl
-  where
-    go : (b : Bool) → ltb x 10 ≡ b → P (cond b ((48 + x) ∷ []) (decimalFrom places (x / 10) ++ ((48 + x % 10) ∷ [])))
-    go true e = f (ltb-true x 10 e)
-    go false e = g (ltb-false x 10 e)
+decimal-cases P places x f g = either P (ltb x 10) _ _ (λ e. f (ltb-true x 10 e)) (λ e. g (ltb-false x 10 e))
 
 length-snoc : (l : List ℕ) (b : ℕ) → length (l ++ (b ∷ [])) ≡ suc (length l)
 length-snoc l b = length-append l (b ∷ []) ∙ add-one (length l)

@@ -7,7 +7,7 @@ use lib.Dec.{eqb}
 use Rattle.node.specs.declared.Fired.{Fired}
 use Rattle.node.specs.declared.Fired.the-variants.{Resend, Progress, Round, Grace}
 use Rattle.node.specs.Event.{Event, whole, delivery, starts, delivers, fires}
-use Rattle.leader.proofs.Cases.{either}
+use Rattle.quorum.proofs.Cases.{either}
 use Rattle.node.specs.Calls as node
 use Rattle.node.proofs.Steps as node-laws
 use Rattle.sender.proofs.Claims as sender-laws

@@ -1,5 +1,5 @@
 -- Cases, said once: what each rule with a test comes to where the test holds, and where it does not.
-use mathlib.Core.Bool.{Bool, true, false, not, cond, _&&_, _||_, and-true, and-false}
+use mathlib.Core.Bool.{Bool, true, false, not, _&&_, _||_, and-true, and-false}
 use mathlib.Core.List.{List}
 use mathlib.Core.Path.{_≡_, refl, sym, _∙_}
 use Prim.Native.Nat.{ℕ, zero, suc, _+_, _-_, _*_, _≤_, _<_}
@@ -10,6 +10,7 @@ use lib.IntN.{ℤ}
 use Rattle.config.specs.declared.Config.{Config}
 use Rattle.config.specs.declared.Timer.the-variants as timer
 use Rattle.quorum.specs.Marks.{marked}
+use Rattle.quorum.proofs.Cases.{either}
 use Rattle.frame.specs.Message.{Message, Observation, Signed, Attested, newEpoch, observeReq, observe, reportReq, report, final, finalEcho}
 use Rattle.frame.specs.Decode.{messageOf}
 use Rattle.frame.proofs.Ranges.{kind-cases}
@@ -19,10 +20,6 @@ use Rattle.leader.specs.declared.Asking.the-variants as asking
 use Rattle.leader.specs.State.{collecting, inGrace, reporting, emptyRound}
 use Rattle.leader.specs.Takes.{observedBy, reportedBy, takes}
 use Rattle.leader.specs.Rules.{led, stays, nextRound, withObservation, withGrace, observing, withReport, nowFinished, reportingFrom}
-
-pub either : {A : Type 0} (P : A → Type 0) (b : Bool) (x y : A) → (b ≡ true → P x) → (b ≡ false → P y) → P (cond b x y)
-either P true x y f g = f refl
-either P false x y f g = g refl
 
 -- the tables are empty in any case
 pub round-cases : (P : Leader → Type 0) (c : Config) (s : Leader) → ((«t_round» : ℕ) → «t_round» ≤ 1 → P (emptyRound collecting (s .round + 1) «t_round»)) → P (nextRound c s .leader)

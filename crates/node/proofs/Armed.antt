@@ -6,6 +6,7 @@ use lib.IntN.{ℤ}
 use Rattle.config.specs.declared.Config.{Config}
 use Rattle.config.specs.declared.Timer.the-variants as timer
 use Rattle.quorum.specs.Counts.{reached}
+use Rattle.quorum.proofs.Cases.{either}
 use Rattle.pacemaker.specs.declared.Pace.{Pace}
 use Rattle.pacemaker.specs.declared.Paced.{Paced}
 use Rattle.pacemaker.specs.Rules as pacemaker
@@ -18,7 +19,7 @@ use Rattle.leader.specs.declared.Asking.the-variants as asking
 use Rattle.leader.specs.State.{noRound}
 use Rattle.leader.specs.Takes.{reportedBy}
 use Rattle.leader.specs.Rules.{led, stays, nextRound, observing, closing, withReport, nowFinished, reportingFrom}
-use Rattle.leader.proofs.Cases.{either, observing-cases}
+use Rattle.leader.proofs.Cases.{observing-cases}
 use Rattle.node.specs.Event.{Whole, Event, Effect}
 use Rattle.node.specs.Effects.{pacing, begun, moving, raising, following, leading}
 use Rattle.node.specs.Claims.{armed, Armed, FlagsAreTheTimers}

@@ -14,6 +14,7 @@ use Rattle.config.specs.declared.Commit.{Commit}
 use Rattle.config.specs.declared.Timer.the-variants as timer
 use Rattle.config.proofs.Facts.{and-true}
 use Rattle.quorum.specs.Marks.{marked}
+use Rattle.quorum.proofs.Cases.{either}
 use Rattle.frame.specs.Message.{Observation, Message, observe, report}
 use Rattle.frame.proofs.Ranges.{OneTo}
 use Rattle.pacemaker.specs.Rules as pacemaker
@@ -26,7 +27,6 @@ use Rattle.leader.specs.State.{collecting, inGrace, reporting, emptyRound, noRo
 use Rattle.leader.specs.Takes as leader
 use Rattle.leader.specs.Rules.{led, nextRound, observing, closing, reportingFrom}
 use Rattle.leader.specs.Runs.{Next, by-grace as led-grace, by-observe as led-observe, by-report as led-report}
-use Rattle.leader.proofs.Cases.{either}
 use Rattle.node.specs.declared.Node.{Node}
 use Rattle.node.specs.Answers.{pastLast}
 use Rattle.node.specs.Effects.{begun}

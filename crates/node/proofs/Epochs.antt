@@ -12,6 +12,7 @@ use lib.ListN.{replicate}
 use Rattle.config.specs.Limits.{keptSize, signaturesSize}
 use Rattle.config.specs.declared.Config.{Config}
 use Rattle.wire.proofs.Overlay.{over-again}
+use Rattle.quorum.proofs.Cases.{either}
 use Rattle.frame.specs.Message.{Message}
 use Rattle.frame.specs.Decode.{epochIn, kindIn, bodyIn}
 use Rattle.frame.proofs.Ranges.{OneTo}
@@ -48,11 +49,7 @@ abbrev pub arrived : Whole → Pace → Whole
 arrived w p = cond (ltb (epochOf (w .node)) (p .epoch)) (fresh w p) (stayed w p)
 
 pub arrived-pace : (w : Whole) (p : Pace) → arrived w p .node .pace ≡ p
-arrived-pace w p = go (ltb (epochOf (w .node)) (p .epoch))
-  where
-    go : (b : Bool) → cond b (fresh w p) (stayed w p) .node .pace ≡ p
-    go true = refl
-    go false = refl
+arrived-pace w p = either (λ v. v .node .pace ≡ p) (ltb (epochOf (w .node)) (p .epoch)) (fresh w p) (stayed w p) (λ e. refl) (λ e. refl)
 
 arrived-none : (w : Whole) → w ≡ arrived w (w .node .pace)
 arrived-none w = rw (le-ltb (epochOf (w .node)) (epochOf (w .node)) (le-refl _))

@@ -18,6 +18,7 @@ use Rattle.wire.specs.Numbers.{beBytes}
 use Rattle.wire.specs.Overlay.{over}
 use Rattle.wire.proofs.Overlay.{over-none, over-then}
 use Rattle.quorum.specs.Marks.{marked}
+use Rattle.quorum.proofs.Cases.{either}
 use Rattle.quorum.proofs.Sort.{length-perm, sort-same}
 use Rattle.frame.specs.Message.{Message}
 use Rattle.frame.specs.Table.{table, bodyLength, trailerLength}
@@ -42,7 +43,6 @@ use Rattle.leader.specs.declared.Asking.the-variants as asking
 use Rattle.leader.specs.State.{noRound}
 use Rattle.leader.specs.Listed.{markedUpTo, order, lowestSigners}
 use Rattle.leader.specs.Rules.{led, nextRound, noSignatures}
-use Rattle.leader.proofs.Cases.{either}
 use Rattle.leader.proofs.Orders.{byNotAfter}
 use Rattle.node.specs.declared.Node.{Node}
 use Rattle.node.specs.declared.Timers.{Timers}

@@ -1,6 +1,6 @@
 -- What is kept, over a run: the buffer holds a report that one of the events delivered and that passed its checks, of the node's epoch and round.
 use mathlib.Core.Path.{_≡_, refl, sym, ap, _∙_}
-use mathlib.Core.Bool.{Bool, true, false, cond, false≢true}
+use mathlib.Core.Bool.{true, false≢true}
 use mathlib.Core.List.{List, [], _∷_, map}
 use mathlib.Core.Logic.{inl, inr}
 use Prim.Native.Nat.{ℕ, _≤_}
@@ -12,6 +12,7 @@ use Rattle.config.proofs.Facts.{good-facts}
 use Rattle.wire.specs.Numbers.{Bytes}
 use Rattle.wire.proofs.Overlay.{length-over}
 use Rattle.quorum.specs.First.{OneOf}
+use Rattle.quorum.proofs.Cases.{either}
 use Rattle.price.specs.Median.{medianOf}
 use Rattle.frame.specs.Message.{Signed, Attested, Message, newEpoch, observeReq, observe, reportReq, report, final, finalEcho}
 use Rattle.frame.specs.Encode.{attestedBytes}
@@ -85,11 +86,8 @@ module _ (c : Config) (es : List Event) (n : Node) (d : Delivery) (m : Message) 
 pub length-kept : (s : Follower) (kept : List ℕ) (m : Message) → length (keptOf s kept m) ≡ length kept
 length-kept s kept (observeReq e r) = length-over kept 0 (replicate keptSize 0)
 length-kept s kept (final a) = length-over kept 0 (keptBytes (attestedBytes a))
-length-kept s kept (finalEcho a) = go (isSet (s .kept))
-  where
-    go : (b : Bool) → length (cond b kept (keeping kept (attestedBytes a))) ≡ length kept
-    go true = refl
-    go false = length-over kept 0 (keptBytes (attestedBytes a))
+length-kept s kept (finalEcho a) =
+    either (λ l. length l ≡ length kept) (isSet (s .kept)) _ _ (λ e. refl) (λ e. length-over kept 0 (keptBytes (attestedBytes a)))
 length-kept s kept (newEpoch e) = refl
 length-kept s kept (observe e r v g) = refl
 length-kept s kept (reportReq e r xs) = refl
@@ -122,12 +120,8 @@ module _ (c : Config) (es : List Event) (few : c .n ≤ members) (w : Whole) (k 
   held-follows (final a) says t stands = λ h. held-new (final a) a (keeps-brings c es w d (final a) a k one typed says refl stands) (taken-final (w .node .follower) _ _ (d .link) a t .0)
   held-follows (finalEcho a) says t stands =
       let new = held-new (finalEcho a) a (keeps-brings c es w d (finalEcho a) a k one typed says refl stands) (taken-echo (w .node .follower) _ _ (d .link) a t .0) in
-      let now = go a new (isSet (w .node .follower .kept)) refl in
+      let now = either (Held c es (epochOf (w .node)) (w .node .follower .round)) (isSet (w .node .follower .kept)) _ _ (k .held) (λ e. new) in
       echoed-each (Follows (finalEcho a)) (w .node .config) (w .node .follower) (d .link) (λ h. now) (λ h. now)
-    where
-      go : (a : Attested) → Held c es (epochOf (w .node)) (w .node .follower .round) (keeping (w .kept) (attestedBytes a)) → (b : Bool) → isSet (w .node .follower .kept) ≡ b → Held c es (epochOf (w .node)) (w .node .follower .round) (cond b (w .kept) (keeping (w .kept) (attestedBytes a)))
-      go a new true e = k .held e
-      go a new false e = new
   held-follows (newEpoch e) says t stands = k .held
   held-follows (observe e r v g) says t stands = k .held
   held-follows (report e r xs g) says t stands = k .held

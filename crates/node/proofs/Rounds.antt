@@ -12,6 +12,7 @@ use lib.IntN.{ℤ}
 use Rattle.config.specs.declared.Config.{Config}
 use Rattle.config.specs.declared.Commit.{Commit}
 use Rattle.config.proofs.Facts.{and-true}
+use Rattle.quorum.proofs.Cases.{either}
 use Rattle.price.specs.Median.{medianOf}
 use Rattle.frame.specs.Message.{Signed, Message, newEpoch, observeReq, observe, reportReq, report, final, finalEcho, kindOf}
 use Rattle.frame.specs.Claims.{Each}
@@ -36,7 +37,6 @@ use Rattle.leader.specs.declared.Leader.{Leader}
 use Rattle.leader.specs.declared.Asking.{Asking}
 use Rattle.leader.specs.declared.Asking.the-variants as asking
 use Rattle.leader.specs.Rules.{noSignatures}
-use Rattle.leader.proofs.Cases.{either}
 use Rattle.node.specs.declared.Node.{Node}
 use Rattle.node.specs.State.{withRound, epochOf, leaderNow, leads}
 use Rattle.node.specs.Event.{Whole, Event, Effect, done}

@@ -1,6 +1,6 @@
 -- A step that is done has run one of ten rules. With each stands what its conditions tell, so that a claim over steps goes by these cases.
 use mathlib.Core.Path.{_≡_, refl, ap, _∙_}
-use mathlib.Core.Bool.{Bool, true, false, not, cond, false≢true}
+use mathlib.Core.Bool.{true, false, not, cond, false≢true}
 use mathlib.Core.List.{List}
 use Prim.Native.Nat.{ℕ, _-_}
 use borrow.Author.Tests.{not-false}
@@ -11,6 +11,7 @@ use Rattle.config.specs.declared.Answer.the-variants as answer
 use Rattle.config.proofs.Facts.{and-true}
 use Rattle.config.proofs.Passed.{itself, stage-passed}
 use Rattle.wire.specs.Numbers.{Bytes}
+use Rattle.quorum.proofs.Cases.{either}
 use Rattle.frame.specs.Message.{Observation, Message, newEpoch, observeReq, observe, reportReq, report, final, finalEcho}
 use Rattle.frame.specs.Encode.{bodyBytes}
 use Rattle.frame.specs.Decode.{trailerPlace, kindIn, lengthIn, bodyIn, messageIn}
@@ -95,11 +96,7 @@ module _ (w : Whole) where
 
     hearing-ruled : (x : ℕ) → Says (w .node) d (newEpoch x) → Ruled w (delivers d) (hearing w (d .link) x)
     unfolding hearing
-    hearing-ruled x s = go (heardFrom (w .node) (d .link) x .moved) refl
-      where
-        go : (b : Bool) → heardFrom (w .node) (d .link) x .moved ≡ b → Ruled w (delivers d) (cond b (moving w (heardFrom (w .node) (d .link) x)) (pacing w (heardFrom (w .node) (d .link) x)))
-        go true e = by-moving d x s e
-        go false e = by-hearing d x s e
+    hearing-ruled x s = either (Ruled w (delivers d)) (heardFrom (w .node) (d .link) x .moved) _ _ (by-moving d x s) (by-hearing d x s)
 
     message-ruled : (m : Message) → Says (w .node) d m → isDone (ruleAnswer (w .node) (d .link) (d .bits) m) ≡ true → pastLast (w .node) m ≡ false → Ruled w (delivers d) (delivering w d m)
     message-ruled (newEpoch x) s h g = hearing-ruled x s

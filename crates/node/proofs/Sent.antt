@@ -1,6 +1,5 @@
 -- What a step sends: at most two messages, of which the first is a NEWEPOCH; and what is for the node's own signature answers the delivery.
 use mathlib.Core.Path.{_≡_, refl}
-use mathlib.Core.Bool.{Bool, true, false, cond}
 use mathlib.Core.List.{List, _∷_, _++_, map}
 use Prim.Native.Nat.{ℕ}
 use lib.IntN.{ℤ}
@@ -8,6 +7,7 @@ use lib.ListN.{length}
 use Rattle.config.specs.declared.Config.{Config}
 use Rattle.config.specs.declared.Commit.{Commit}
 use Rattle.price.specs.Median.{medianOf}
+use Rattle.quorum.proofs.Cases.{either}
 use Rattle.frame.specs.Message.{Signed, Message, newEpoch, observeReq, observe, reportReq, report, final, finalEcho}
 use Rattle.frame.specs.Decode.{messageIn}
 use Rattle.frame.specs.Claims.{Each}
@@ -74,11 +74,9 @@ module _ (c : Config) (s : Follower) (j time : ℕ) (commit : Commit) (p : Pace)
   few-followed (observeReq e r) = requested-each (Few (observeReq e r)) c s r tt tt
   few-followed (reportReq e r xs) = asked-each (Few (reportReq e r xs)) c s time commit (medianOf (valuesOf (map (λ (x : Signed). x .said) xs))) tt tt
   few-followed (final a) = tt
-  few-followed (finalEcho a) = echoed-each (Few (finalEcho a)) c s j (go (isSet (s .kept))) (go (isSet (s .kept)))
-    where
-      go : (t : Bool) → FewSent (replying v (finalEcho a) (cond t reply.Nothing reply.Echo))
-      go true = tt
-      go false = tt
+  few-followed (finalEcho a) =
+      let one = either (λ r. FewSent (replying v (finalEcho a) r)) (isSet (s .kept)) _ _ (λ e. tt) (λ e. tt) in
+      echoed-each (Few (finalEcho a)) c s j one one
   few-followed (newEpoch e) = tt
   few-followed (observe e r u g) = tt
   few-followed (report e r xs g) = tt

@@ -1,6 +1,6 @@
 -- Numbers stay what their types hold, whatever a step does: bytes stay bytes, tables as long as they are, epochs, rounds and values in their widths.
 use mathlib.Core.Path.{_≡_, refl, ap, _∙_}
-use mathlib.Core.Bool.{Bool, true, false, cond}
+use mathlib.Core.Bool.{true, false}
 use mathlib.Core.List.{List, [], _∷_, map}
 use Prim.Native.Nat.{ℕ, zero, suc, _+_, _-_, _*_, _^_, _≤_, _<_, zero-le}
 use native.Mathlib.Omega.{arith}
@@ -16,6 +16,7 @@ use Rattle.config.specs.declared.Commit.{Commit}
 use Rattle.config.specs.declared.Saved.{Saved}
 use Rattle.wire.specs.Numbers.{Bytes}
 use Rattle.wire.proofs.Numbers.{bytes-append, bytes-replicate, bytes-over}
+use Rattle.quorum.proofs.Cases.{either}
 use Rattle.price.specs.Median.{medianOf}
 use Rattle.frame.specs.Message.{Signed, Message, newEpoch, observeReq, observe, reportReq, report, final, finalEcho}
 use Rattle.frame.specs.Encode.{attestedBytes, bodyBytes}
@@ -140,15 +141,11 @@ typed-followed c s j time commit (report e r xs g) h t = t
 bytes-keeping : (kept body : List ℕ) → Bytes kept → Bytes body → Bytes (keeping kept body)
 bytes-keeping kept body b g = bytes-over kept 0 (keptBytes body) b (bytes-append body (replicate (keptSize - length body) 0) g (bytes-replicate (keptSize - length body)))
 
-bytes-either : (t : Bool) (l m : List ℕ) → Bytes l → Bytes m → Bytes (cond t l m)
-bytes-either true l m b g = b
-bytes-either false l m b g = g
-
 bytes-kept : (s : Follower) (kept : List ℕ) (m : Message) → Bytes kept → Bytes (bodyBytes m) → Bytes (keptOf s kept m)
 unfolding bodyBytes
 bytes-kept s kept (observeReq e r) b g = bytes-over kept 0 (replicate keptSize 0) b (bytes-replicate keptSize)
 bytes-kept s kept (final a) b g = bytes-keeping kept (attestedBytes a) b g
-bytes-kept s kept (finalEcho a) b g = bytes-either (isSet (s .kept)) kept (keeping kept (attestedBytes a)) b (bytes-keeping kept (attestedBytes a) b g)
+bytes-kept s kept (finalEcho a) b g = either Bytes (isSet (s .kept)) _ _ (λ e. b) (λ e. bytes-keeping kept (attestedBytes a) b g)
 bytes-kept s kept (newEpoch e) b g = b
 bytes-kept s kept (observe e r v u) b g = b
 bytes-kept s kept (reportReq e r xs) b g = b

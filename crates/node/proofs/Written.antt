@@ -19,7 +19,7 @@ use Rattle.wire.specs.Numbers.{Bytes, part, beBytes}
 use Rattle.wire.proofs.Numbers.{bytes-drop, bytes-over}
 use Rattle.wire.proofs.Overlay.{length-over, part-over}
 use Rattle.quorum.specs.First.{bit}
-use Rattle.quorum.proofs.Cases.{cases, test}
+use Rattle.quorum.proofs.Cases.{cases, test, either}
 use Rattle.quorum.proofs.Marks.{marks-le-length}
 use Rattle.frame.specs.Message.{Observation, Signed, Signer, Attested, Message, newEpoch, observeReq, observe, reportReq, report, final, finalEcho, kindOf}
 use Rattle.frame.specs.Table.{bodyLength, trailerLength}
@@ -50,7 +50,7 @@ use Rattle.leader.specs.State.{inGrace, noRound}
 use Rattle.leader.specs.Listed.{order, listOf, requestOf, lowestSigners, finalOf}
 use Rattle.leader.specs.Takes as leader
 use Rattle.leader.specs.Rules.{led, stays, nextRound, noSignatures, observeSigned, closing, withReport, nowFinished, reportingFrom, reportSigned}
-use Rattle.leader.proofs.Cases.{either, observing-cases}
+use Rattle.leader.proofs.Cases.{observing-cases}
 use Rattle.leader.proofs.Lines.{same-apart}
 use Rattle.leader.proofs.Marked.{length-marked, lowest-members, order-members, length-order}
 use Rattle.node.specs.declared.Node.{Node}

@@ -11,6 +11,7 @@ use lib.ListN.{take, getD}
 use Rattle.config.specs.Limits.{members, lastEpoch}
 use Rattle.config.proofs.Facts.{and-true}
 use Rattle.quorum.specs.Counts.{countAbove, countReaching, reached}
+use Rattle.quorum.proofs.Cases.{either}
 use Rattle.quorum.proofs.Counts.{Below, none, some, reached-reach, reached-anti, raise-max}
 use Rattle.pacemaker.specs.declared.Pace.{Pace}
 use Rattle.pacemaker.specs.declared.Paced.{Paced}
@@ -60,11 +61,7 @@ nothing-falls n f p q (by-newepoch j x a b) =
     rw (step-is n f p j x) (record { epoch = omega arith; highest = omega arith; heard = below-at (below-hear (p .heard) j x) })
 
 armed-flag : (old new flag : ℕ) → flag ≤ 1 → armed old new flag ≤ 1
-armed-flag old new flag h = go (ltb old new)
-  where
-    go : (b : Bool) → cond b 1 flag ≤ 1
-    go true = le-refl 1
-    go false = h
+armed-flag old new flag h = either (λ x. x ≤ 1) (ltb old new) 1 flag (λ e. le-refl 1) (λ e. h)
 
 good-next : (n f : ℕ) (p q : Pace) → Next n f p q → Good p → Good q
 unfolding startOf resendOf changeLeaderOf progressOf

@@ -1,6 +1,6 @@
 -- Cases, said once: of a sum, of a test, of the order of two numbers.
 use mathlib.Core.Path.{_≡_, refl}
-use mathlib.Core.Bool.{Bool, true, false}
+use mathlib.Core.Bool.{Bool, true, false, cond}
 use mathlib.Core.Logic.{_⊎_, inl, inr}
 use Prim.Native.Nat.{ℕ, _≤_, _<_}
 use lib.Dec.{leb}
@@ -18,6 +18,11 @@ test false = inr refl
 pub test-false : (b : Bool) → (b ≡ true → ⊥) → b ≡ false
 test-false true h = absurd (h refl)
 test-false false h = refl
+
+-- what holds of both outcomes of a test, each where the test comes to it, holds of what the test picks
+pub either : {A : Type 0} (P : A → Type 0) (b : Bool) (x y : A) → (b ≡ true → P x) → (b ≡ false → P y) → P (cond b x y)
+either P true x y f g = f refl
+either P false x y f g = g refl
 
 pub split : (a b : ℕ) → (a ≤ b) ⊎ (b < a)
 split a b = cases (test (leb a b)) (λ e. inl (leb-true a b e)) (λ e. inr (leb-false a b e))

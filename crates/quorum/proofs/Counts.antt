@@ -11,7 +11,7 @@ use lib.Dec.{leb, ltb}
 use lib.ListN.{length, take, drop, getD, set, replicate, take-append-drop}
 use Rattle.quorum.specs.Counts.{tick, countIf, countAbove, countReaching, candidate, best, reached}
 use Rattle.quorum.specs.Sort.{Perm, done, keep, swap, then}
-use Rattle.quorum.proofs.Cases.{cases, split}
+use Rattle.quorum.proofs.Cases.{cases, either, split}
 
 -- ---- one entry more or less
 pub tick-le : (b c : Bool) {m n : ℕ} → (b ≡ true → c ≡ true) → m ≤ n → tick b m ≤ tick c n
@@ -122,11 +122,7 @@ pub candidate-no : (k : ℕ) (l : List ℕ) (c r : ℕ) → r ≡ countReaching 
 candidate-no k l c r e h = rw (le-ltb k (countReaching c l) (omega arith))
 
 pub candidate-le : (k : ℕ) (l : List ℕ) (c : ℕ) → candidate k l c ≤ c
-candidate-le k l c = go (ltb k (countReaching c l))
-  where
-    go : (b : Bool) → cond b c 0 ≤ c
-    go true = le-refl c
-    go false = zero-le
+candidate-le k l c = either (λ x. x ≤ c) (ltb k (countReaching c l)) c 0 (λ e. le-refl c) (λ e. zero-le)
 
 best-reach : (k : ℕ) (l cs : List ℕ) → 0 < best k l cs → k < countReaching (best k l cs) l
 best-reach k l [] p = absurd (omega arith)
@@ -225,9 +221,7 @@ reached-none k n m =
 
 -- the rule "if more than k entries exceed h, then what more than k entries reach" gives the larger of the two
 pub raise-max : (k h : ℕ) (l : List ℕ) → cond (ltb k (countAbove h l)) (reached k l) h ≡ max h (reached k l)
-raise-max k h l = go (ltb k (countAbove h l)) refl
-  where
-    go : (b : Bool) → ltb k (countAbove h l) ≡ b → cond b (reached k l) h ≡ max h (reached k l)
-    go true e = omega (arith, reached-most k l (suc h) (ltb-true _ _ e))
-    go false e =
-        sym (max-eq-left (by-contra _ _ (λ q. omega (arith, ltb-false k (countAbove h l) e, reached-reach k l (omega arith), reaching-anti (suc h) (reached k l) l q))))
+raise-max k h l =
+    either (λ x. x ≡ max h (reached k l)) (ltb k (countAbove h l)) (reached k l) h
+    (λ e. omega (arith, reached-most k l (suc h) (ltb-true _ _ e)))
+    (λ e. sym (max-eq-left (by-contra _ _ (λ q. omega (arith, ltb-false k (countAbove h l) e, reached-reach k l (omega arith), reaching-anti (suc h) (reached k l) l q)))))

@@ -1,6 +1,6 @@
 -- Laws of first places: of a test, of a clear bit, of an entry that stood before; and of a column of members.
 use mathlib.Core.Path.{_≡_, refl, ap, sym, _∙_}
-use mathlib.Core.Bool.{Bool, true, false, not, cond, _||_, false≢true, or-assoc, or-false, or-true}
+use mathlib.Core.Bool.{Bool, true, false, not, _||_, false≢true, or-assoc, or-false, or-true}
 use mathlib.Core.List.{List, [], _∷_, _++_}
 use Prim.Native.Nat.{ℕ, zero, suc, _+_, _*_, _/_, _%_, _^_, _≤_, _<_, zero-le, suc-le-suc}
 use native.Mathlib.Nat.{le-refl, le-antisymm, div-div-eq-div-mul, mul-le-mul-right, pow-suc, suc-mul, zero-mul}
@@ -14,7 +14,7 @@ use lib.Seq.{take-suc, getD-take, getD-drop, getD-set-same, getD-set-other, leng
 use Rattle.quorum.specs.Marks.{marked, mark}
 use Rattle.quorum.specs.First.{firstAt, bit, firstClear, allSet, among, firstRepeat, distinct, column}
 use Rattle.quorum.specs.Claims.{First}
-use Rattle.quorum.proofs.Cases.{cases, test, test-false}
+use Rattle.quorum.proofs.Cases.{cases, test, test-false, either}
 
 -- ---- the first place where a test holds
 abbrev IsFirst : (ℕ → Bool) → ℕ → ℕ → Type 0
@@ -23,15 +23,15 @@ IsFirst p n r = (r ≤ n) × (r < n → p r ≡ true) × ((i : ℕ) → i < r �
 first-is : (p : ℕ → Bool) (n : ℕ) → IsFirst p n (firstAt p n)
 unfolding firstAt
 first-is p zero = (zero-le, λ h. absurd (omega arith), λ i h. absurd (omega arith))
-first-is p (suc n) = go (p 0) refl (first-is (λ i. p (suc i)) n)
+first-is p (suc n) =
+    let (a, b, c) = first-is (λ i. p (suc i)) n in
+    either (IsFirst p (suc n)) (p 0) _ _
+    (λ e. (zero-le, λ h. e, λ i h. absurd (omega arith)))
+    (λ e. (suc-le-suc a, λ h. b (omega arith), later _ e c))
   where
     later : (r : ℕ) → p 0 ≡ false → ((i : ℕ) → i < r → p (suc i) ≡ false) → (i : ℕ) → i < suc r → p i ≡ false
     later r e f zero h = e
     later r e f (suc i) h = f i (omega arith)
-
-    go : (b : Bool) → p 0 ≡ b → IsFirst (λ i. p (suc i)) n (firstAt (λ i. p (suc i)) n) → IsFirst p (suc n) (cond b 0 (suc (firstAt (λ i. p (suc i)) n)))
-    go true e w = (zero-le, λ h. e, λ i h. absurd (omega arith))
-    go false e (a, b, c) = (suc-le-suc a, λ h. b (omega arith), later _ e c)
 
 pub first-law : (p : ℕ → Bool) (n : ℕ) → First p n
 first-law p n = record { within = first-is p n .0; here = first-is p n .1; before = first-is p n .2 }

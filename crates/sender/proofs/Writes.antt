@@ -14,7 +14,7 @@ use Rattle.config.proofs.Facts.{and-true}
 use Rattle.wire.specs.Overlay.{over}
 use Rattle.wire.proofs.Overlay.{take-over, over-drop, part-over}
 use Rattle.quorum.specs.Marks.{marked}
-use Rattle.quorum.proofs.Cases.{cases, split}
+use Rattle.quorum.proofs.Cases.{cases, either, split}
 use Rattle.frame.specs.Range.{goodAttested}
 use Rattle.frame.specs.Decode.{attestedIn}
 use Rattle.frame.proofs.Access.{part-of-take}
@@ -48,11 +48,7 @@ times-none (suc n) = times-none n
 pub free-unmarked : (l : List ℕ) → marked l (freeIn l) ≡ false
 unfolding freeIn
 free-unmarked [] = refl
-free-unmarked (t ∷ l) = go (eqb t 1) refl (free-unmarked l)
-  where
-    go : (b : Bool) → eqb t 1 ≡ b → marked l (freeIn l) ≡ false → marked (t ∷ l) (cond b (suc (freeIn l)) 0) ≡ false
-    go true e h = h
-    go false e h = e
+free-unmarked (t ∷ l) = either (λ k. marked (t ∷ l) k ≡ false) (eqb t 1) _ _ (λ e. free-unmarked l) (λ e. e)
 
 -- ---- the tables, with slot k written
 
