@@ -4,7 +4,7 @@ use mathlib.Core.List.{List}
 use mathlib.Core.Path.{_≡_, refl, sym, _∙_}
 use Prim.Native.Nat.{ℕ, zero, suc, _+_, _-_, _*_, _≤_, _<_}
 use native.Mathlib.Omega.{arith}
-use borrow.Author.Tests.{eqb-true, eqb-false, eq-eqb, ne-eqb, lt-ltb, le-ltb, le-leb}
+use borrow.Author.Tests.{eqb-true, eqb-false, eq-eqb, ne-eqb, ltb-true, lt-ltb, le-ltb, le-leb}
 use lib.Dec.{eqb, ltb}
 use lib.IntN.{ℤ}
 use Rattle.config.specs.declared.Config.{Config}
@@ -21,14 +21,11 @@ use Rattle.leader.specs.State.{collecting, inGrace, reporting, emptyRoun
 use Rattle.leader.specs.Takes.{observedBy, reportedBy, takes}
 use Rattle.leader.specs.Rules.{led, stays, nextRound, withObservation, withGrace, observing, withReport, nowFinished, reportingFrom}
 
--- the tables are empty in any case
-pub round-cases : (P : Leader → Type 0) (c : Config) (s : Leader) → ((«t_round» : ℕ) → «t_round» ≤ 1 → P (emptyRound collecting (s .round + 1) «t_round»)) → P (nextRound c s .leader)
+-- every round asks for observations; whether T_round runs is told, and kept
+pub round-cases : (P : Led → Type 0) (c : Config) (s : Leader) → P (led (emptyRound collecting (s .round + 1) 0) asking.Observations timer.Stop timer.Stop) → P (led (emptyRound collecting (s .round + 1) 1) asking.Observations timer.Start timer.Stop) → P (nextRound c s)
 unfolding nextRound
-round-cases P c s f =
-    either (λ (l : Led). P (l .leader)) (eqb (s .round) (c .«r_max»))
-    (led (emptyRound collecting (s .round + 1) 0) asking.Observations timer.Stop timer.Stop)
-    (led (emptyRound collecting (s .round + 1) 1) asking.Observations timer.Start timer.Stop)
-    (λ e. f 0 (omega arith)) (λ e. f 1 (omega arith))
+round-cases P c s p q =
+    either P (eqb (s .round) (c .«r_max»)) (led (emptyRound collecting (s .round + 1) 0) asking.Observations timer.Stop timer.Stop) (led (emptyRound collecting (s .round + 1) 1) asking.Observations timer.Start timer.Stop) (λ e. p) (λ e. q)
 
 pub observing-cases : (P : Led → Type 0) (c : Config) (s : Leader) (j : ℕ) (v : ℤ) → (observedBy (c .n) (withObservation s j v) ≡ 2 * c .f + 1 → P (led (withGrace (withObservation s j v)) asking.Nothing timer.Leave timer.Start)) → ((observedBy (c .n) (withObservation s j v) ≡ 2 * c .f + 1 → ⊥) → P (stays (withObservation s j v))) → P (observing c s j v)
 unfolding observing
@@ -37,12 +34,12 @@ observing-cases P c s j v f g =
     either P (eqb (observedBy (c .n) t) (2 * c .f + 1)) (led (withGrace t) asking.Nothing timer.Leave timer.Start) (stays t)
     (λ e. f (eqb-true _ _ e)) (λ e. g (eqb-false _ _ e))
 
-pub reporting-cases : (P : Leader → Type 0) (c : Config) (s : Leader) (j : ℕ) → P (nowFinished (withReport s j)) → P (withReport s j) → P (reportingFrom c s j .leader)
+pub reporting-cases : (P : Led → Type 0) (c : Config) (s : Leader) (j : ℕ) → (c .f < reportedBy (c .n) (withReport s j) → P (led (nowFinished (withReport s j)) asking.Final timer.Leave timer.Leave)) → P (stays (withReport s j)) → P (reportingFrom c s j)
 unfolding reportingFrom
 reporting-cases P c s j f g =
     let t = withReport s j in
-    either (λ (l : Led). P (l .leader)) (ltb (c .f) (reportedBy (c .n) t)) (led (nowFinished t) asking.Final timer.Leave timer.Leave) (stays t)
-    (λ e. f) (λ e. g)
+    either P (ltb (c .f) (reportedBy (c .n) t)) (led (nowFinished t) asking.Final timer.Leave timer.Leave) (stays t)
+    (λ e. f (ltb-true _ _ e)) (λ e. g)
 
 -- ---- the same, for the code's own tests
 

@@ -1,31 +1,31 @@
 -- States that rules lead to: tables stay in range, each phase tells how many have observed, and within a round no phase comes again.
-use mathlib.Core.Bool.{Bool, true, false, not, _&&_, _||_}
+use mathlib.Core.Bool.{true, _&&_}
 use mathlib.Core.List.{List}
-use mathlib.Core.Logic.{_⊎_, inl, inr}
-use mathlib.Core.Path.{_≡_, refl, _∙_}
-use Prim.Native.Nat.{ℕ, suc, _-_, _*_, _≤_, _<_}
+use mathlib.Core.Path.{_≡_, _∙_}
+use Prim.Native.Nat.{ℕ, suc, _-_, _*_, _≤_}
 use native.Mathlib.Nat.{le-refl}
 use native.Mathlib.Omega.{arith}
 use borrow.Author.Needs.{needs}
-use borrow.Author.Tests.{leb-true, le-leb, ltb-true, eqb-true, not-true}
-use lib.Dec.{eqb, leb, ltb}
+use borrow.Author.Tests.{leb-true, le-leb}
+use lib.Dec.{eqb, leb}
 use lib.IntN.{ℤ}
 use lib.ListN.{length, take, replicate, length-set, length-replicate}
 use Rattle.config.specs.Limits.{members}
 use Rattle.config.specs.declared.Config.{Config}
 use Rattle.config.proofs.Facts.{and-true}
-use Rattle.quorum.specs.Marks.{flags, marked, countMarks}
+use Rattle.quorum.specs.Marks.{flags, countMarks}
 use Rattle.quorum.proofs.Cases.{cases, split}
 use Rattle.quorum.proofs.Counts.{count-split}
 use Rattle.quorum.proofs.Marks.{marks-none, flags-mark, flags-none}
-use Rattle.frame.specs.Message.{Observation, observe, report}
+use Rattle.frame.specs.Message.{observe}
 use Rattle.leader.specs.declared.Leader.{Leader}
-use Rattle.leader.specs.State.{collecting, inGrace, reporting, finished, goodLeader}
-use Rattle.leader.specs.Takes.{takes, firesGrace, observedBy}
+use Rattle.leader.specs.State.{collecting, finished, goodLeader}
+use Rattle.leader.specs.Takes.{takes, observedBy}
 use Rattle.leader.specs.Rules.{withObservation, closing}
 use Rattle.leader.specs.Runs.{Next, by-round, by-observe, by-grace, by-report, Lived, begun, then}
 use Rattle.leader.specs.Claims.{Counted}
 use Rattle.leader.proofs.Cases.{round-cases, observing-cases, reporting-cases}
+use Rattle.leader.proofs.Taken.{taken-observe, taken-report, fired-grace}
 use Rattle.leader.proofs.Tables.{observe-count}
 
 -- ---- in range
@@ -55,14 +55,14 @@ pub next-in-range : (c : Config) (s t : Leader) → Next c s t → InRange s →
 unfolding closing
 next-in-range c s t by-round r =
     let none = flags-none members in
-    round-cases InRange c s (λ «t_round» h. search needs)
+    round-cases (λ l. InRange (l .leader)) c s (search needs) (search needs)
 next-in-range c s t (by-observe epoch j v g low high e) r =
     let flag = flags-mark (s .observed) (j - 1) (r .observed) in
     observing-cases (λ l. InRange (l .leader)) c s j v (λ e. search needs) (λ e. search needs)
 next-in-range c s t (by-grace e) r = search needs
 next-in-range c s t (by-report epoch j xs g low high e) r =
     let flag = flags-mark (s .reported) (j - 1) (r .reported) in
-    reporting-cases InRange c s j (search needs) (search needs)
+    reporting-cases (λ l. InRange (l .leader)) c s j (λ e. search needs) (search needs)
 
 -- ---- how many have observed
 
@@ -74,45 +74,16 @@ pub record Tallied (c : Config) (s : Leader) : Type 0 where
   pub counted : Counted c s
   pub long : length (s .observed) ≡ members
 
--- what the conditions tell of an OBSERVE that is taken: it comes in time, and is the member's first
-record TakenObserve (s : Leader) (j : ℕ) : Type 0 where
-  least : 1 ≤ s .phase
-  most : s .phase ≤ inGrace
-  new : marked (s .observed) (j - 1) ≡ false
-
-taken-observe : (s : Leader) (epoch j : ℕ) (v : ℤ) (g : List ℕ) → takes s true epoch j (observe epoch (s .round) v g) ≡ true → TakenObserve s j
-taken-observe s epoch j v g e =
-    let phases = eqb (s .phase) collecting || eqb (s .phase) inGrace in
-    let p = and-true (eqb epoch epoch && phases && eqb (s .round) (s .round)) (not (marked (s .observed) (j - 1))) e in
-    let q = and-true (eqb epoch epoch) phases (and-true (eqb epoch epoch && phases) (eqb (s .round) (s .round)) (p .0) .0) .1 in
-    cases (or-true (eqb (s .phase) collecting) (eqb (s .phase) inGrace) q)
-    (λ h. let k = eqb-true (s .phase) collecting h in record { least = omega arith; most = omega arith; new = not-true _ (p .1) })
-    (λ h. let k = eqb-true (s .phase) inGrace h in record { least = omega arith; most = omega arith; new = not-true _ (p .1) })
-  where
-    or-true : (a b : Bool) → a || b ≡ true → (a ≡ true) ⊎ (b ≡ true)
-    or-true true b e = inl refl
-    or-true false b e = inr e
-
--- and it is one more
+-- an OBSERVE that is taken is one more
 pub observe-more : (c : Config) (s : Leader) (epoch j : ℕ) (v : ℤ) (g : List ℕ) → c .n ≤ members → length (s .observed) ≡ members → 1 ≤ j → j ≤ c .n → takes s true epoch j (observe epoch (s .round) v g) ≡ true → observedBy (c .n) (withObservation s j v) ≡ suc (observedBy (c .n) s)
-observe-more c s epoch j v g small long low high e = observe-count (c .n) j (s .observed) low high (omega arith) (taken-observe s epoch j v g e .new)
-
-taken-report : (s : Leader) (epoch j : ℕ) (xs : List Observation) (g : List ℕ) → takes s true epoch j (report epoch (s .round) xs g) ≡ true → s .phase ≡ reporting
-taken-report s epoch j xs g e =
-    let p = and-true (eqb epoch epoch && eqb (s .phase) reporting && eqb (s .round) (s .round)) (not (marked (s .reported) (j - 1))) e in
-    let q = and-true (eqb epoch epoch && eqb (s .phase) reporting) (eqb (s .round) (s .round)) (p .0) in
-    eqb-true (s .phase) reporting (and-true (eqb epoch epoch) (eqb (s .phase) reporting) (q .0) .1)
-
-fired-grace : (n f : ℕ) (s : Leader) → firesGrace n f s true ≡ true → (s .phase ≡ inGrace) × (2 * f < observedBy n s)
-fired-grace n f s e =
-    let armed = eqb (s .«t_grace») 1 && eqb (s .phase) inGrace in
-    let p = and-true armed (ltb (2 * f) (observedBy n s)) (and-true (armed && ltb (2 * f) (observedBy n s)) (ltb 0 (s .round)) e .0) in
-    (eqb-true (s .phase) inGrace (and-true (eqb (s .«t_grace») 1) (eqb (s .phase) inGrace) (p .0) .1), ltb-true (2 * f) (observedBy n s) (p .1))
+observe-more c s epoch j v g small long low high e = observe-count (c .n) j (s .observed) low high (omega arith) (taken-observe s true epoch j epoch (s .round) v g e .new)
 
 next-tallied : (c : Config) (s t : Leader) → c .n ≤ members → Next c s t → Tallied c s → Tallied c t
 unfolding closing
 next-tallied c s t small by-round k =
-    round-cases (Tallied c) c s (λ «t_round» h. record { counted = omega (arith, none-count (c .n) members); long = length-replicate {A = ℕ} members 0 })
+    let none = none-count (c .n) members in
+    let long = length-replicate {A = ℕ} members 0 in
+    round-cases (λ l. Tallied c (l .leader)) c s (record { counted = omega arith; long = long }) (record { counted = omega arith; long = long })
 next-tallied c s t small (by-observe epoch j v g low high e) k =
     let more = observe-more c s epoch j v g small (k .long) low high e in
     let long = length-set (s .observed) (j - 1) 1 ∙ k .long in
@@ -130,8 +101,8 @@ next-tallied c s t small (by-observe epoch j v g low high e) k =
 next-tallied c s t small (by-grace e) k =
     record { counted = omega (arith, fired-grace (c .n) (c .f) s e .1); long = k .long }
 next-tallied c s t small (by-report epoch j xs g low high e) k =
-    let asked = k .counted .asked (taken-report s epoch j xs g e) in
-    reporting-cases (Tallied c) c s j (record { counted = omega arith; long = k .long }) (search needs)
+    let asked = k .counted .asked (taken-report s true epoch j epoch (s .round) xs g e .phase) in
+    reporting-cases (λ l. Tallied c (l .leader)) c s j (λ e. record { counted = omega arith; long = k .long }) (search needs)
 
 pub lived-tallied : (c : Config) {s : Leader} → c .n ≤ members → Lived c s → Tallied c s
 lived-tallied c small begun = record { counted = omega arith; long = length-replicate {A = ℕ} members 0 }
@@ -142,17 +113,17 @@ lived-tallied c small (then {s = s} {t = t} l next) = next-tallied c s t small n
 -- an OBSERVE that makes more than 2f comes while the leader still collects
 pub still-collecting : (c : Config) (s : Leader) (epoch j : ℕ) (v : ℤ) (g : List ℕ) → Counted c s → observedBy (c .n) s ≤ 2 * c .f → takes s true epoch j (observe epoch (s .round) v g) ≡ true → s .phase ≡ collecting
 still-collecting c s epoch j v g k few e =
-    let t = taken-observe s epoch j v g e in
+    let t = taken-observe s true epoch j epoch (s .round) v g e in
     cases (split (s .phase) collecting)
     (λ h. omega (arith, t .least))
     (λ h. absurd (omega (arith, k .grace (omega (arith, t .most)))))
 
 pub phase-rises : (c : Config) (s t : Leader) → Next c s t → s .round ≡ t .round → s .phase ≤ t .phase
 unfolding closing
-phase-rises c s t by-round e = absurd (round-cases (λ t. s .round ≡ t .round → ⊥) c s (λ «t_round» h q. omega arith) e)
+phase-rises c s t by-round e = absurd (round-cases (λ l. s .round ≡ l .leader .round → ⊥) c s (λ q. omega arith) (λ q. omega arith) e)
 phase-rises c s t (by-observe epoch j v g low high h) e =
-    let k = taken-observe s epoch j v g h in
+    let k = taken-observe s true epoch j epoch (s .round) v g h in
     observing-cases (λ l. s .phase ≤ l .leader .phase) c s j v (λ at. k .most) (λ off. le-refl (s .phase))
 phase-rises c s t (by-grace h) e = omega (arith, fired-grace (c .n) (c .f) s h .0)
 phase-rises c s t (by-report epoch j xs g low high h) e =
-    reporting-cases (λ l. s .phase ≤ l .phase) c s j (omega (arith, taken-report s epoch j xs g h)) (le-refl (s .phase))
+    reporting-cases (λ l. s .phase ≤ l .leader .phase) c s j (λ e. omega (arith, taken-report s true epoch j epoch (s .round) xs g h .phase)) (le-refl (s .phase))

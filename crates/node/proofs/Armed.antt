@@ -1,10 +1,8 @@
 -- The flags of a state are its timers: after each rule a timer is armed exactly as the call says, and one that the rule leaves alone is as the rule found it.
 use mathlib.Core.Path.{_≡_, refl}
 use Prim.Native.Nat.{ℕ}
-use lib.Dec.{ltb}
 use lib.IntN.{ℤ}
 use Rattle.config.specs.declared.Config.{Config}
-use Rattle.config.specs.declared.Timer.the-variants as timer
 use Rattle.quorum.specs.Counts.{reached}
 use Rattle.quorum.proofs.Cases.{either}
 use Rattle.pacemaker.specs.declared.Pace.{Pace}
@@ -15,16 +13,14 @@ use Rattle.follower.specs.declared.Raised.the-variants as raised
 use Rattle.follower.specs.Rules.{followOf}
 use Rattle.leader.specs.declared.Leader.{Leader}
 use Rattle.leader.specs.declared.Led.{Led}
-use Rattle.leader.specs.declared.Asking.the-variants as asking
 use Rattle.leader.specs.State.{noRound}
-use Rattle.leader.specs.Takes.{reportedBy}
-use Rattle.leader.specs.Rules.{led, stays, nextRound, observing, closing, withReport, nowFinished, reportingFrom}
-use Rattle.leader.proofs.Cases.{observing-cases}
+use Rattle.leader.specs.Rules.{stays, nextRound, observing, closing, reportingFrom}
+use Rattle.leader.proofs.Cases.{round-cases, observing-cases, reporting-cases}
 use Rattle.node.specs.Event.{Whole, Event, Effect}
 use Rattle.node.specs.Effects.{pacing, begun, moving, raising, following, leading}
 use Rattle.node.specs.Claims.{armed, Armed, FlagsAreTheTimers}
 use Rattle.node.proofs.Ruled.{heardFrom, Ruled, by-start, by-resend, by-progress, by-round, by-grace, by-hearing, by-moving, by-following, by-observe, by-report, step-ruled}
-use Rattle.node.proofs.Cases.{begun-cases, round-led}
+use Rattle.node.proofs.Cases.{begun-cases}
 
 -- what a part's rule says of its timers, and the flags that it leaves of those it found
 record PaceArmed (resend progress : ℕ) (p : Paced) : Type 0 where
@@ -66,7 +62,7 @@ raised-armed raised.ChangeLeader p = record { resend-flag = refl; progress-flag 
 
 next-armed : (c : Config) (s : Leader) (round grace : ℕ) → LeaderArmed round grace (nextRound c s)
 next-armed c s round grace =
-    round-led (LeaderArmed round grace) c s (record { round-flag = refl; grace-flag = refl }) (record { round-flag = refl; grace-flag = refl })
+    round-cases (LeaderArmed round grace) c s (record { round-flag = refl; grace-flag = refl }) (record { round-flag = refl; grace-flag = refl })
 
 begun-armed : (c : Config) (epoch round grace : ℕ) → LeaderArmed round grace (begun c epoch)
 begun-armed c epoch round grace =
@@ -77,11 +73,8 @@ observing-armed c s j v =
     observing-cases (LeaderArmed (s .«t_round») (s .«t_grace»)) c s j v (λ e. record { round-flag = refl; grace-flag = refl }) (λ e. record { round-flag = refl; grace-flag = refl })
 
 reporting-armed : (c : Config) (s : Leader) (j : ℕ) → LeaderArmed (s .«t_round») (s .«t_grace») (reportingFrom c s j)
-unfolding reportingFrom
 reporting-armed c s j =
-    let t = withReport s j in
-    either (LeaderArmed (s .«t_round») (s .«t_grace»)) (ltb (c .f) (reportedBy (c .n) t)) (led (nowFinished t) asking.Final timer.Leave timer.Leave) (stays t)
-    (λ e. record { round-flag = refl; grace-flag = refl }) (λ e. record { round-flag = refl; grace-flag = refl })
+    reporting-cases (LeaderArmed (s .«t_round») (s .«t_grace»)) c s j (λ e. record { round-flag = refl; grace-flag = refl }) (record { round-flag = refl; grace-flag = refl })
 
 -- ---- all of them
 

@@ -37,6 +37,7 @@ use Rattle.follower.proofs.Claims as followed
 use Rattle.leader.specs.declared.Led.{Led}
 use Rattle.leader.specs.State.{goodLeader, noRound}
 use Rattle.leader.specs.Runs.{Next, by-round as led-round}
+use Rattle.leader.proofs.Taken.{grace-next, observe-next, report-next}
 use Rattle.leader.proofs.Claims as led
 use Rattle.node.specs.declared.Node.{Node}
 use Rattle.node.specs.State.{epochOf, leads, goodNode, goodKept, goodState, withPace, withLeader, withRound}
@@ -46,7 +47,7 @@ use Rattle.node.specs.Typed.{TypedEvent}
 use Rattle.node.specs.Claims.{GoodStaysGood}
 use Rattle.node.proofs.Checks.{NodeGood, node-facts}
 use Rattle.node.proofs.Ruled.{Ruled, by-start, by-resend, by-progress, by-round, by-grace, by-hearing, by-moving, by-following, by-observe, by-report, kept-by-steps, said-link, said-well, heard-next}
-use Rattle.node.proofs.Cases.{begun-cases, grace-next, observe-next, report-next}
+use Rattle.node.proofs.Cases.{begun-cases}
 
 -- ---- a state and its parts
 

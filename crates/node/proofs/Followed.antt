@@ -7,7 +7,7 @@ use mathlib.Core.Path.{_≡_, refl, sym, ap, _∙_}
 use Prim.Native.Nat.{ℕ, _+_, _≤_, _<_}
 use native.Mathlib.Nat.{le-trans}
 use native.Mathlib.Omega.{arith}
-use borrow.Author.Tests.{ltb-false}
+use borrow.Author.Tests.{ltb-false, le-ltb}
 use lib.Dec.{ltb}
 use lib.IntN.{ℤ}
 use lib.ListN.{length}
@@ -29,7 +29,7 @@ use Rattle.report.specs.Kept.{keeping}
 use Rattle.report.proofs.Bodies.{good-short}
 use Rattle.pacemaker.specs.declared.Pace.{Pace}
 use Rattle.pacemaker.specs.declared.Paced.{Paced}
-use Rattle.pacemaker.specs.Rules.{progressOf}
+use Rattle.pacemaker.specs.Rules.{progressOf, pastEnd}
 use Rattle.follower.specs.declared.Follower.{Follower}
 use Rattle.follower.specs.declared.Followed.{Followed}
 use Rattle.follower.specs.declared.Handed.{Handed}
@@ -100,6 +100,9 @@ pub leader-changes : (n : Node) (j time : ℕ) (commit : Commit) (m : Message) �
 leader-changes n j time commit m past e =
     let halted : halts (n .config) m ≡ true = sym (changes-halts (n .config) (n .follower) j time commit m) ∙ ap changes e in
     omega (arith, ltb-false lastEpoch (n .pace .epoch + 1) (rw halted at past))
+
+pub raised-past : (n : Node) (j time : ℕ) (commit : Commit) (m : Message) → pastLast n m ≡ false → followOf (n .config) (n .follower) j time commit m .raised ≡ raised.ChangeLeader → pastEnd (n .pace) ≡ false
+raised-past n j time commit m past q = le-ltb lastEpoch (n .pace .epoch + 1) (omega (arith, leader-changes n j time commit m past q))
 
 -- what is raised announces an epoch, or there is a reply, and not both
 abbrev One : Pace → Followed → Type 0

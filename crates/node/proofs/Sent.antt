@@ -37,13 +37,14 @@ use Rattle.leader.specs.declared.Asking.the-variants as asking
 use Rattle.leader.specs.State.{noRound}
 use Rattle.leader.specs.Listed.{requestOf, finalOf}
 use Rattle.leader.specs.Rules.{noSignatures}
+use Rattle.leader.proofs.Cases.{round-cases}
 use Rattle.node.specs.declared.Fired.the-variants as fired
 use Rattle.node.specs.State.{epochOf, leaderNow}
 use Rattle.node.specs.Event.{Whole, Delivery, Event, starts, delivers, fires, Effect}
 use Rattle.node.specs.Effects.{announced, asking-for, answering, replying, pacing, begun, moving, raising, following, leading}
 use Rattle.node.specs.Claims.{FewSent, NewEpochGoesFirst, SignedFor, Unsigned, Signs, SignsOnlyWhatItAnswers}
 use Rattle.node.proofs.Ruled.{Ruled, by-start, by-resend, by-progress, by-round, by-grace, by-hearing, by-moving, by-following, by-observe, by-report, heardFrom, step-ruled}
-use Rattle.node.proofs.Cases.{begun-cases, round-led}
+use Rattle.node.proofs.Cases.{begun-cases}
 
 -- ---- how many
 
@@ -62,7 +63,7 @@ few-moved : (c : Config) (epoch : ℕ) (signatures : List ℕ) (s : Sent) → Fe
 few-moved c epoch signatures sent.Nothing = few-asked c epoch (begun c epoch .leader) signatures (begun c epoch .asking)
 few-moved c epoch signatures (sent.NewEpoch x) =
     let P : Led → Type 0 = λ l. FewSent (newEpoch x ∷ asking-for c epoch (l .leader) signatures (l .asking)) in
-    begun-cases P c epoch (round-led P c noRound (refl, refl) (refl, refl)) tt
+    begun-cases P c epoch (round-cases P c noRound (refl, refl) (refl, refl)) tt
 
 -- of a message that is followed: what it raises sends nothing where there is a reply
 module _ (c : Config) (s : Follower) (j time : ℕ) (commit : Commit) (p : Pace) (v : ℤ) where

@@ -23,6 +23,7 @@ use Rattle.follower.specs.declared.Raised.the-variants as raised
 use Rattle.follower.specs.declared.Finding.the-variants.{Taken}
 use Rattle.follower.specs.Takes.{findingOf}
 use Rattle.leader.specs.declared.Led.{Led}
+use Rattle.leader.proofs.Taken.{grace-leads, taken-observe, taken-report}
 use Rattle.node.specs.State.{epochOf, leaderNow, leads}
 use Rattle.node.specs.Event.{Whole, Delivery, Event, delivers, Effect, Step, refused, done}
 use Rattle.node.specs.Effects.{pacing, moving, raising, following, leading, effectOf}
@@ -31,7 +32,6 @@ use Rattle.node.specs.Runs.{Done}
 use Rattle.node.proofs.Checks.{node-facts}
 use Rattle.node.proofs.Steps.{good-node, step-done}
 use Rattle.node.proofs.Ruled.{Says, Ruled, by-start, by-resend, by-progress, by-round, by-grace, by-hearing, by-moving, by-following, by-observe, by-report, step-ruled, heard-next}
-use Rattle.node.proofs.Cases.{grace-leads, observe-in-time, report-in-time}
 
 pub data Turn (w : Whole) : Event → Effect → Type 0 where
   -- the pacemaker's rules, in the same epoch
@@ -74,12 +74,12 @@ ruled-turn w e f (by-start time) = paced _ pacemaker.by-start refl
 ruled-turn w e f (by-resend time h) = paced _ pacemaker.by-resend refl
 ruled-turn w e f (by-progress time h) = paced _ pacemaker.by-change refl
 ruled-turn w e f (by-round time h g) = led _ _ h
-ruled-turn w e f (by-grace time h) = led _ _ (grace-leads (w .node .config) (w .node .leader) _ h)
+ruled-turn w e f (by-grace time h) = led _ _ (grace-leads (w .node .config .n) (w .node .config .f) (w .node .leader) _ h)
 ruled-turn w e f (by-hearing d x s h) = let t = heard-next (w .node) d x s in paced _ t (unmoved-stays _ _ (w .node .pace) (d .link) x t h)
 ruled-turn w e f (by-moving d x s h) = moved _ (heard-next (w .node) d x s) (moved-rises _ _ (w .node .pace) (d .link) x h)
 ruled-turn w e f (by-following d m s t h) = followed d m s t
-ruled-turn w e f (by-observe d x r v g s t) = led _ _ (observe-in-time (w .node .config) (w .node .leader) _ (epochOf (w .node)) (d .link) x r v g t .leading)
-ruled-turn w e f (by-report d x r xs g s t h) = led _ _ (report-in-time (w .node .config) (w .node .leader) _ (epochOf (w .node)) (d .link) x r xs g t .leading)
+ruled-turn w e f (by-observe d x r v g s t) = led _ _ (taken-observe (w .node .leader) _ (epochOf (w .node)) (d .link) x r v g t .in-time .leading)
+ruled-turn w e f (by-report d x r xs g s t h) = led _ _ (taken-report (w .node .leader) _ (epochOf (w .node)) (d .link) x r xs g t .in-time .leading)
 
 -- so what holds of a refusal and of the four holds of a step
 pub step-turns : (P : Step → Type 0) (w : Whole) (e : Event) → ((a : Answer) → P (refused a)) → ((f : Effect) → Turn w e f → P (done f)) → P (step w e)

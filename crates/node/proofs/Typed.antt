@@ -41,7 +41,7 @@ use Rattle.leader.specs.declared.Led.{Led}
 use Rattle.leader.specs.State.{idle, collecting, emptyRound, noRound}
 use Rattle.leader.specs.Takes as leader
 use Rattle.leader.specs.Rules.{nextRound, noSignatures, observing, closing, reportingFrom}
-use Rattle.leader.proofs.Cases.{observing-cases, reporting-cases}
+use Rattle.leader.proofs.Cases.{round-cases, observing-cases, reporting-cases}
 use Rattle.node.specs.declared.Node.{Node}
 use Rattle.node.specs.State.{restoredNode, withPace, withLeader}
 use Rattle.node.specs.Event.{Whole, whole, Delivery, Event, Effect}
@@ -51,7 +51,8 @@ use Rattle.node.specs.Typed.{TypedNode, TypedWhole, TypedEvent}
 use Rattle.node.specs.Claims.{TypedStaysTyped}
 use Rattle.node.proofs.Written.{heard-in-range}
 use Rattle.node.proofs.Ruled.{Says, heardFrom, Ruled, by-start, by-resend, by-progress, by-round, by-grace, by-hearing, by-moving, by-following, by-observe, by-report, kept-by-steps, said-range, said-well, said-bytes}
-use Rattle.node.proofs.Cases.{begun-cases, round-led, raised-past}
+use Rattle.node.proofs.Cases.{begun-cases}
+use Rattle.node.proofs.Followed.{raised-past}
 
 -- ---- what types hold
 
@@ -186,7 +187,7 @@ module _ (w : Whole) (t : TypedWhole w) where
   unfolding moving
   typed-moving p q =
       let P : Led → Type 0 = λ l. TypedLeader (l .leader) in
-      let l = begun-cases P c (p .pace .epoch) (round-led P c noRound (typed-round collecting 1 0 (omega arith)) (typed-round collecting 1 1 (omega arith))) (typed-round idle 0 0 zero-le) in
+      let l = begun-cases P c (p .pace .epoch) (round-cases P c noRound (typed-round collecting 1 0 (omega arith)) (typed-round collecting 1 1 (omega arith))) (typed-round idle 0 0 zero-le) in
       record {
         node = typed-node (moving w p .whole-after .node) (t .node .number) q (record { round = zero-le; marks = refl }) l;
         kept = bytes-over (w .kept) 0 (replicate keptSize 0) (t .kept) (bytes-replicate keptSize);
@@ -209,7 +210,7 @@ module _ (w : Whole) (t : TypedWhole w) where
   typed-next : leader.pastEnd (n .leader) ≡ false → TypedLeader (nextRound c (n .leader) .leader)
   typed-next past =
       let next = ltb-false lastRound (n .leader .round + 1) past in
-      round-led (λ l. TypedLeader (l .leader)) c (n .leader) (typed-round collecting (n .leader .round + 1) 0 next) (typed-round collecting (n .leader .round + 1) 1 next)
+      round-cases (λ l. TypedLeader (l .leader)) c (n .leader) (typed-round collecting (n .leader .round + 1) 0 next) (typed-round collecting (n .leader .round + 1) 1 next)
 
   typed-closing : TypedLeader (closing (n .leader) .leader)
   unfolding closing
@@ -229,8 +230,8 @@ module _ (w : Whole) (t : TypedWhole w) where
   typed-reporting j =
       let s = n .leader in
       let reported = length-set (s .reported) (j - 1) 1 ∙ t .node .reported in
-      reporting-cases TypedLeader c s j
-      (record { round = t .node .leader-round; values = t .node .values; value = t .node .value; observed = t .node .observed; reported = reported })
+      reporting-cases (λ l. TypedLeader (l .leader)) c s j
+      (λ h. record { round = t .node .leader-round; values = t .node .values; value = t .node .value; observed = t .node .observed; reported = reported })
       (record { round = t .node .leader-round; values = t .node .values; value = t .node .value; observed = t .node .observed; reported = reported })
 
 -- ---- all of them

@@ -13,13 +13,12 @@ use mir.Syntax.{w64}
 use mir.Val.{SFits}
 use Rattle.config.specs.Limits.{members, lastEpoch, lastRound, signatureSize, reportSignatures, signaturesSize, outboxSize}
 use Rattle.config.specs.declared.Config.{Config}
-use Rattle.config.specs.declared.Timer.the-variants as timer
 use Rattle.config.proofs.Facts.{and-true, good-facts}
 use Rattle.wire.specs.Numbers.{Bytes, part, beBytes}
 use Rattle.wire.proofs.Numbers.{bytes-drop, bytes-over}
 use Rattle.wire.proofs.Overlay.{length-over, part-over}
 use Rattle.quorum.specs.First.{bit}
-use Rattle.quorum.proofs.Cases.{cases, test, either}
+use Rattle.quorum.proofs.Cases.{cases, test}
 use Rattle.quorum.proofs.Marks.{marks-le-length}
 use Rattle.frame.specs.Message.{Observation, Signed, Signer, Attested, Message, newEpoch, observeReq, observe, reportReq, report, final, finalEcho, kindOf}
 use Rattle.frame.specs.Table.{bodyLength, trailerLength}
@@ -45,12 +44,12 @@ use Rattle.follower.specs.State.{isSet}
 use Rattle.follower.specs.Rules.{followOf}
 use Rattle.leader.specs.declared.Leader.{Leader}
 use Rattle.leader.specs.declared.Led.{Led}
-use Rattle.leader.specs.declared.Asking.the-variants as asking
 use Rattle.leader.specs.State.{inGrace, noRound}
 use Rattle.leader.specs.Listed.{order, listOf, requestOf, lowestSigners, finalOf}
 use Rattle.leader.specs.Takes as leader
-use Rattle.leader.specs.Rules.{led, stays, nextRound, noSignatures, observeSigned, closing, withReport, nowFinished, reportingFrom, reportSigned}
-use Rattle.leader.proofs.Cases.{observing-cases}
+use Rattle.leader.specs.Rules.{nextRound, noSignatures, observeSigned, closing, withReport, nowFinished, reportSigned}
+use Rattle.leader.proofs.Cases.{round-cases, observing-cases, reporting-cases}
+use Rattle.leader.proofs.Taken.{taken-report}
 use Rattle.leader.proofs.Lines.{same-apart}
 use Rattle.leader.proofs.Marked.{length-marked, lowest-members, order-members, length-order}
 use Rattle.node.specs.declared.Node.{Node}
@@ -65,7 +64,8 @@ use Rattle.node.proofs.Checks.{NodeGood, node-facts}
 use Rattle.node.proofs.Ready.{room-facts}
 use Rattle.node.proofs.Steps.{good-node, call-is-the-step}
 use Rattle.node.proofs.Ruled.{Says, heardFrom, Ruled, by-start, by-resend, by-progress, by-round, by-grace, by-hearing, by-moving, by-following, by-observe, by-report, step-ruled, config-ruled, said-range, said-well}
-use Rattle.node.proofs.Cases.{begun-cases, round-led, raised-past, report-in-time}
+use Rattle.node.proofs.Cases.{begun-cases}
+use Rattle.node.proofs.Followed.{raised-past}
 use Rattle.node.proofs.Sent.{new-epoch-goes-first, announced-each, replying-each}
 
 -- ---- numbers
@@ -220,7 +220,7 @@ module _ (w : Whole) (t : TypedWhole w) (p : NodeGood (w .node)) where
       let P : Led → Type 0 = λ l. Well (asking-for c epoch (l .leader) signatures (l .asking)) in
       let first : ReadWell all (observeReq epoch 1) = well-observe-req all epoch 1 some (r .epoch) (omega arith) (omega arith) in
       each-append (ReadWell all) (announced (q .sent)) (asking-for c epoch (begun c epoch .leader) signatures (begun c epoch .asking))
-      (well-announced all q s r) (begun-cases P c epoch (round-led P c noRound (first, tt) (first, tt)) tt)
+      (well-announced all q s r) (begun-cases P c epoch (round-cases P c noRound (first, tt) (first, tt)) tt)
 
   well-following : (d : Delivery) (m : Message) → SFits w64 (d .observation) → ReadWell all m → pastLast (w .node) m ≡ false → Well (following w d m .sent)
   unfolding following
@@ -242,7 +242,7 @@ module _ (w : Whole) (t : TypedWhole w) (p : NodeGood (w .node)) where
       let P : Led → Type 0 = λ l. Well (asking-for c epoch (l .leader) (noSignatures (w .signatures)) (l .asking)) in
       let some = leads-epoch (w .node) (good-facts c (p .config) .own .some) h in
       let next : ReadWell all (observeReq epoch (own .round + 1)) = well-observe-req all epoch (own .round + 1) some (t .node .pace .epoch) (omega arith) (ltb-false lastRound (own .round + 1) past) in
-      round-led P c own (next, tt) (next, tt)
+      round-cases P c own (next, tt) (next, tt)
 
   module _ (sized : signaturesSize ≤ length (w .signatures)) where
     -- the tables of a leader that leads, whatever phase it is in
@@ -283,22 +283,21 @@ module _ (w : Whole) (t : TypedWhole w) (p : NodeGood (w .node)) where
 
     -- the list of a REPORT is the leader's own, so that is not empty
     well-report : (j e r : ℕ) (xs : List Observation) (g : List ℕ) (bits : ℕ) → ReadWell all (report e r xs g) → leader.takes own (leads (w .node)) (epochOf (w .node)) j (report e r xs g) ≡ true → leader.stands all own bits (report e r xs g) ≡ true → Well (led-by w j (report e r xs g) .sent)
-    unfolding leading reportingFrom
+    unfolding leading
     well-report j e r xs g bits k h stands =
         let c = w .node .config in
         let s = withReport own j in
         let signatures = reportSigned (w .signatures) j g in
-        let time = report-in-time c own (leads (w .node)) (epochOf (w .node)) j e r xs g h in
+        let time = taken-report own (leads (w .node)) (epochOf (w .node)) j e r xs g h .in-time in
         let head = and-true (goodEpoch e && goodRound r) (goodObservations all xs) (k .range) in
         let round = good-head-facts e r (head .0) .round in
         let many = good-entries-facts all (λ (o : Observation). o .member) xs (head .1) .count in
         let same = same-length xs (listOf all own) (and-true (leader.sameList xs (listOf all own)) (bit bits 0) stands .0) in
         let some : 1 ≤ length (order all (own .observed) (own .values)) = omega (arith, length-map (order all (own .observed) (own .values)) (observed (own .values))) in
         let ready = tabled (nowFinished s) signatures (time .leading) refl refl (length-set (own .reported) (j - 1) 1 ∙ t .node .reported) refl (omega (arith, time .round-same)) (bytes-over (w .signatures) (reportSignatures + signatureSize * (j - 1)) g (t .signatures) (k .writable .1 .bytes)) (length-over (w .signatures) (reportSignatures + signatureSize * (j - 1)) g) in
-        either (λ l. Well (asking-for c (epochOf (w .node)) (l .leader) signatures (l .asking)))
-        (ltb (c .f) (leader.reportedBy all s)) (led (nowFinished s) asking.Final timer.Leave timer.Leave) (stays s)
-        (λ enough. (well-final all (epochOf (w .node)) (nowFinished s) signatures ready (c .f) some (omega (arith, good-facts c (p .config) .feed .members)) (ltb-true (c .f) (leader.reportedBy all s) enough), tt))
-        (λ few. tt)
+        reporting-cases (λ l. Well (asking-for c (epochOf (w .node)) (l .leader) signatures (l .asking))) c own j
+        (λ enough. (well-final all (epochOf (w .node)) (nowFinished s) signatures ready (c .f) some (omega (arith, good-facts c (p .config) .feed .members)) enough, tt))
+        tt
 
 -- ---- all of them
 
