@@ -1,25 +1,17 @@
 -- The frames that a call writes, one directly after the other; that the outbox has room for them; and what a call that wrote them comes to.
-use mathlib.Core.Bool.{Bool, true, false, cond}
 use mathlib.Core.List.{List, [], _∷_, _++_, append-assoc, append-nil}
 use mathlib.Core.Logic.{inl, inr}
 use mathlib.Core.Path.{_≡_, refl, sym, ap, _∙_}
-use Prim.Native.Nat.{ℕ, zero, suc, _+_, _-_, _≤_}
+use Prim.Native.Nat.{ℕ, _+_, _-_, _≤_}
 use native.Mathlib.Nat.{le-refl, le-trans}
 use native.Mathlib.Omega.{arith}
-use lib.Dec.{eqb}
-use lib.IntN.{ℤ}
-use lib.ListN.{length, length-append, length-take}
+use lib.ListN.{length, length-append}
 use Rattle.config.specs.Limits.{members, outboxSize}
-use Rattle.config.specs.Leader.{leaderOf}
-use Rattle.config.specs.declared.Timer.the-variants.{Stop}
 use Rattle.config.specs.declared.Answer.the-variants.{Done}
 use Rattle.config.specs.declared.Config.{Config}
 use Rattle.wire.specs.Numbers.{beBytes}
 use Rattle.wire.specs.Overlay.{over}
 use Rattle.wire.proofs.Overlay.{over-none, over-then}
-use Rattle.quorum.specs.Marks.{marked}
-use Rattle.quorum.proofs.Cases.{either}
-use Rattle.quorum.proofs.Sort.{length-perm, sort-same}
 use Rattle.frame.specs.Message.{Message}
 use Rattle.frame.specs.Table.{table, bodyLength, trailerLength}
 use Rattle.frame.specs.Encode.{headBytes, bodyBytes, trailerBytes, frameBytes}
@@ -41,15 +33,17 @@ use Rattle.leader.specs.declared.Led.{Led}
 use Rattle.leader.specs.declared.Asking.{Asking}
 use Rattle.leader.specs.declared.Asking.the-variants as asking
 use Rattle.leader.specs.State.{noRound}
-use Rattle.leader.specs.Listed.{markedUpTo, order, lowestSigners}
-use Rattle.leader.specs.Rules.{led, nextRound, noSignatures}
-use Rattle.leader.proofs.Orders.{byNotAfter}
+use Rattle.leader.specs.Listed.{order, lowestSigners}
+use Rattle.leader.specs.Rules.{noSignatures}
+use Rattle.leader.proofs.Cases.{round-cases}
+use Rattle.leader.proofs.Marked.{lowest-most, order-most}
 use Rattle.node.specs.declared.Node.{Node}
 use Rattle.node.specs.declared.Timers.{Timers}
 use Rattle.node.specs.Event.{Whole, whole}
 use Rattle.node.specs.Effects.{nothingHanded, announced, asking-for, movedTimers, begun, moving}
 use Rattle.node.specs.Calls.{framesOf, out, settled}
 use Rattle.node.specs.Ready.{WroteAll, AskingFits, Answers, ReplyFits}
+use Rattle.node.proofs.Cases.{begun-cases}
 
 -- ---- one after the other
 
@@ -102,30 +96,13 @@ pub announced-fits : (at long : ℕ) → at + outboxSize ≤ long → at + (body
 unfolding bodyLength
 announced-fits at long h = omega arith
 
-marked-most : (n : ℕ) (marks : List ℕ) → length (markedUpTo n marks) ≤ n
-unfolding markedUpTo
-marked-most zero marks = omega arith
-marked-most (suc n) marks = go (marked marks n) (marked-most n marks)
-  where
-    go : (b : Bool) → length (markedUpTo n marks) ≤ n → length (cond b (markedUpTo n marks ++ (suc n ∷ [])) (markedUpTo n marks)) ≤ suc n
-    go true h = omega (arith, length-append (markedUpTo n marks) (suc n ∷ []))
-    go false h = omega arith
-
-pub order-most : (n : ℕ) (marks : List ℕ) (values : List ℤ) → length (order n marks values) ≤ n
-unfolding order
-order-most n marks values =
-    omega (arith, length-perm (sort-same (byNotAfter values) (markedUpTo n marks)), marked-most n marks)
-
-pub lowest-most : (n f : ℕ) (l : Leader) → length (lowestSigners n f l) ≤ n
-lowest-most n f l = omega (arith, length-take (f + 1) (markedUpTo n (l .reported)), marked-most n (l .reported))
-
 pub asking-fits : (c : Config) (l : Leader) (a : Asking) (o : List ℕ) (at : ℕ) → c .n ≤ members → at + outboxSize ≤ announcementSize + length o → AskingFits c l a o at
 asking-fits c l asking.Nothing o at g h = tt
 asking-fits c l asking.Observations o at g h = fits 2 0 0 o at (omega arith) (omega arith) h
 asking-fits c l asking.Reports o at g h =
     fits 4 (length (order (c .n) (l .observed) (l .values))) 0 o at (le-trans (order-most (c .n) (l .observed) (l .values)) g) (omega arith) h
 asking-fits c l asking.Final o at g h =
-    fits 6 (length (order (c .n) (l .observed) (l .values))) (length (lowestSigners (c .n) (c .f) l)) o at (le-trans (order-most (c .n) (l .observed) (l .values)) g) (le-trans (lowest-most (c .n) (c .f) l) g) h
+    fits 6 (length (order (c .n) (l .observed) (l .values))) (length (lowestSigners (c .n) (c .f) l)) o at (le-trans (order-most (c .n) (l .observed) (l .values)) g) (le-trans (lowest-most (c .n) (c .f + 1) (l .reported)) g) h
 
 pub reply-fits : (n kind : ℕ) (b : List ℕ) (r : Reply) (o : List ℕ) (at : ℕ) → n ≤ members → bodyAnswer n kind b ≡ Done → Answers r kind → at + outboxSize ≤ announcementSize + length o → ReplyFits r b o at
 reply-fits n kind b reply.Nothing o at g e k h = tt
@@ -152,12 +129,10 @@ Short c epoch signatures l = length (framesOf c (asking-for c epoch (l .leader) 
 
 -- a fresh instance asks for observations, or for nothing
 pub begun-long : (c : Config) (epoch : ℕ) (signatures : List ℕ) → Short c epoch signatures (begun c epoch)
-unfolding framesOf frameBytes bodyBytes headBytes trailerBytes beBytes begun nextRound
+unfolding framesOf frameBytes bodyBytes headBytes trailerBytes beBytes
 begun-long c epoch signatures =
     let P = Short c epoch signatures in
-    either P (eqb (c .own) (leaderOf (c .n) epoch)) (nextRound c noRound) (led noRound asking.Nothing Stop Stop)
-    (λ _. either P (eqb 0 (c .«r_max»)) _ _ (λ _. le-refl requestSize) (λ _. le-refl requestSize))
-    (λ _. omega arith)
+    begun-cases P c epoch (round-cases P c noRound (le-refl requestSize) (le-refl requestSize)) (omega arith)
 
 -- what a move comes to that wrote what the pacemaker sends, and then what the leader asks for
 module _

@@ -1,11 +1,11 @@
 -- The laws of the node that the proofs of this crate and of others cite, and the claims: each file says what it is about.
 pub mod Checks
 pub mod Ready
+pub mod Cases
 pub mod Frames
 pub mod Followed
 pub mod Steps
 pub mod Ruled
-pub mod Cases
 pub mod Listed
 pub mod Sent
 pub mod Written
