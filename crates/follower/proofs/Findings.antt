@@ -1,12 +1,9 @@
 -- A message that is taken meets its rule's conditions, and nothing is wrong with it; so a FINAL-ECHO is taken only from a member without a mark.
 use mathlib.Core.Path.{_≡_, refl}
-use mathlib.Core.Bool.{Bool, true, false, not, cond, _&&_}
+use mathlib.Core.Bool.{Bool, true, false, cond}
 use Prim.Native.Nat.{ℕ, _-_}
 use native.Mathlib.Omega.{arith}
-use borrow.Author.Tests.{not-true}
-use lib.Dec.{eqb}
 use Rattle.config.specs.Codes.{isDone}
-use Rattle.config.proofs.Facts.{and-true}
 use Rattle.quorum.specs.Marks.{marked}
 use Rattle.frame.specs.Message.{Attested, Message, finalEcho}
 use Rattle.report.specs.declared.Fault.{Fault}
@@ -15,8 +12,8 @@ use Rattle.report.specs.Faults.{codeOf}
 use Rattle.report.proofs.Faults.{done-nothing}
 use Rattle.follower.specs.declared.Follower.{Follower}
 use Rattle.follower.specs.declared.Finding.the-variants.{Ignored, Wrong, Taken}
-use Rattle.follower.specs.State.{isSet}
-use Rattle.follower.specs.Takes.{current, takes, faultOf, findingOf}
+use Rattle.follower.specs.Takes.{takes, faultOf, findingOf}
+use Rattle.follower.proofs.Taken.{taken-echo}
 
 taken-if : (t d : Bool) (x : Fault) → cond t (cond d Taken (Wrong x)) Ignored ≡ Taken → (t ≡ true) × (d ≡ true)
 taken-if true true x e = (refl, refl)
@@ -32,8 +29,4 @@ module _ (s : Follower) (f epoch leader j bits : ℕ) where
 
   -- "none from j yet"
   pub taken-unmarked : (a : Attested) → findingOf s f epoch leader j bits (finalEcho a) ≡ Taken → marked (s .marks) (j - 1) ≡ false
-  taken-unmarked a e =
-      let here = current s epoch (a .epoch) && eqb (a .round) (s .round) in
-      let new = not (marked (s .marks) (j - 1)) in
-      let p = and-true (here && new) (not (isSet (s .completed))) (finding-taken (finalEcho a) e .0) in
-      not-true (marked (s .marks) (j - 1)) (and-true here new (p .0) .1)
+  taken-unmarked a e = taken-echo s epoch leader j a (finding-taken (finalEcho a) e .0) .1

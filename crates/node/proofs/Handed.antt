@@ -31,6 +31,7 @@ use Rattle.follower.specs.Takes.{takes, faultOf}
 use Rattle.follower.specs.Rules.{requests, received, followOf}
 use Rattle.follower.specs.Handed.{handedOf, handedPart}
 use Rattle.follower.proofs.Rules.{requested-each, asked-each, echoed-each}
+use Rattle.follower.proofs.Taken.{Report, taken-request, taken-echo}
 use Rattle.follower.proofs.Findings.{finding-taken}
 use Rattle.node.specs.declared.Node.{Node}
 use Rattle.node.specs.State.{epochOf, leaderNow}
@@ -41,7 +42,6 @@ use Rattle.node.specs.Runs.{settledIn, after, arriving, handedBy, handed
 use Rattle.node.specs.Typed.{TypedEvent, TypedEvents}
 use Rattle.node.specs.Claims.{Checked, HandedWasChecked, Rising, HandedOnceARound}
 use Rattle.node.proofs.Ruled.{Says}
-use Rattle.node.proofs.Taken.{Report, taken-request, taken-echo}
 use Rattle.node.proofs.Turns.{Turn, paced, moved, followed, led, step-turns, raising-epoch}
 use Rattle.node.proofs.Rounds.{leaves, round-stays}
 use Rattle.node.proofs.Bodies.{frame-stands, body-stands}
@@ -96,7 +96,7 @@ module _ (c : Config) (es : List Event) (w : Whole) (k : Keeps c es w) (d : Deli
       let s = w .node .follower in
       let p = taken-echo s (epochOf (w .node)) (leaderNow (w .node)) (d .link) a t in
       echoed-each Gives (w .node .config) s (d .link)
-      (echo-hands _ a (keeps-brings c es w d (finalEcho a) a k is typed says refl stands) (p .0) (record { still-open = p .1; same-epoch = raising-epoch raised.Progress (w .node .pace); same-round = refl; closed = refl }) (isSet (s .kept)) refl)
+      (echo-hands _ a (keeps-brings c es w d (finalEcho a) a k is typed says refl stands) (p .0) (record { still-open = p .2; same-epoch = raising-epoch raised.Progress (w .node .pace); same-round = refl; closed = refl }) (isSet (s .kept)) refl)
       (hands-none c es w _ (d .frame))
   follow-hands (newEpoch e) says t stands = hands-none c es w _ (d .frame)
   follow-hands (observe e r v g) says t stands = hands-none c es w _ (d .frame)

@@ -30,6 +30,7 @@ use Rattle.follower.specs.Takes.{takes, faultOf}
 use Rattle.follower.specs.Rules.{received, followOf, keptOf}
 use Rattle.follower.specs.Claims.{Carries}
 use Rattle.follower.proofs.Rules.{requested-each, asked-each, echoed-each}
+use Rattle.follower.proofs.Taken.{Report, taken-final, taken-echo}
 use Rattle.follower.proofs.Findings.{finding-taken}
 use Rattle.node.specs.declared.Node.{Node}
 use Rattle.node.specs.State.{epochOf, leaderNow}
@@ -39,7 +40,6 @@ use Rattle.node.specs.Runs.{settledIn, after, run, Begun}
 use Rattle.node.specs.Typed.{TypedEvent, TypedEvents}
 use Rattle.node.specs.Claims.{Checked, KeptWasChecked}
 use Rattle.node.proofs.Ruled.{Says}
-use Rattle.node.proofs.Taken.{Report, taken-final, taken-echo}
 use Rattle.node.proofs.Turns.{Turn, paced, moved, followed, led, step-turns, raising-epoch}
 use Rattle.node.proofs.Runs.{begun-config}
 use Rattle.node.proofs.Bodies.{brought-good, brought-writable}

@@ -14,7 +14,6 @@ pub mod Typed
 pub mod Armed
 pub mod Turns
 pub mod Runs
-pub mod Taken
 pub mod Epochs
 pub mod Observations
 pub mod Order

@@ -32,6 +32,7 @@ use Rattle.follower.specs.State.{isSet, inRound}
 use Rattle.follower.specs.Takes.{takes}
 use Rattle.follower.specs.Rules.{followed as came-to, requests, requested, received, followOf}
 use Rattle.follower.proofs.Rules.{asked-each, echoed-each}
+use Rattle.follower.proofs.Taken.{taken-request, taken-live}
 use Rattle.follower.proofs.Findings.{finding-taken}
 use Rattle.leader.specs.declared.Leader.{Leader}
 use Rattle.leader.specs.declared.Asking.{Asking}
@@ -45,7 +46,6 @@ use Rattle.node.specs.Calls.{step}
 use Rattle.node.specs.Runs.{settledIn, after, run, sentBy, sentIn, arriving, handedBy, handedIn}
 use Rattle.node.specs.Claims.{countObserves, FewRoundsAnEpoch, Waits, RestoredWaitsForAMove}
 use Rattle.node.proofs.Sent.{announced-each}
-use Rattle.node.proofs.Taken.{taken-request, taken-live}
 use Rattle.node.proofs.Turns.{Turn, paced, moved, followed, led, step-turns, raising-epoch}
 use Rattle.node.proofs.Runs.{config-after}
 

@@ -41,14 +41,14 @@ module _ (s : Follower) (epoch leader j : ℕ) where
       let q = and-true (here && eqb j leader) (eqb (a .round) (s .round)) (p .0) in
       (record { current = current-facts (a .epoch) (and-true here (eqb j leader) (q .0) .0); round = eqb-true _ _ (q .1) }, not-true _ (p .1))
 
-  pub taken-echo : (a : Attested) → takes s epoch leader j (finalEcho a) ≡ true → Report a × (isSet (s .completed) ≡ false)
+  pub taken-echo : (a : Attested) → takes s epoch leader j (finalEcho a) ≡ true → Report a × (marked (s .marks) (j - 1) ≡ false) × (isSet (s .completed) ≡ false)
   taken-echo a h =
       let here = current s epoch (a .epoch) in
       let new = not (marked (s .marks) (j - 1)) in
       let p = and-true (here && eqb (a .round) (s .round) && new) (not (isSet (s .completed))) h in
       let q = and-true (here && eqb (a .round) (s .round)) new (p .0) in
       let r = and-true here (eqb (a .round) (s .round)) (q .0) in
-      (record { current = current-facts (a .epoch) (r .0); round = eqb-true _ _ (r .1) }, not-true _ (p .1))
+      (record { current = current-facts (a .epoch) (r .0); round = eqb-true _ _ (r .1) }, not-true _ (q .1), not-true _ (p .1))
 
   taken-list : (e r : ℕ) (xs : List Signed) → takes s epoch leader j (reportReq e r xs) ≡ true → Current e
   taken-list e r xs h =
