@@ -16,7 +16,7 @@ use Rattle.price.specs.Median.{medianOf}
 use Rattle.price.specs.Due.{shouldReport}
 use Rattle.quorum.specs.Marks.{flags, marked, countMarks}
 use Rattle.quorum.specs.First.{firstAt}
-use Rattle.quorum.proofs.Marks.{marks-once}
+use Rattle.quorum.proofs.Marks.{marks-once, mark-stays}
 use Rattle.frame.specs.Encode.{attestedBytes}
 use Rattle.frame.specs.Message.{Signed, Signer, Attested, Message, newEpoch, observeReq, observe, reportReq, report, final, finalEcho, blank}
 use Rattle.report.specs.declared.Fault.the-variants as fault
@@ -34,7 +34,7 @@ use Rattle.follower.specs.Takes.{faultOf, findingOf}
 use Rattle.follower.specs.Rules.{nowKept, nowMarked, asked, received, echoed, followOf, keptOf}
 use Rattle.follower.specs.Claims.{KeptAndChecked, KeptWasChecked, ListWasChecked, ReportedWasChecked, CountedOnce, EchoCountsOnce, MarksStay, KeptNothingElse, GoodStaysGood}
 use Rattle.follower.proofs.State.{good-parts, good-round, good-signed, good-completed, good-kept, good-marked}
-use Rattle.follower.proofs.Rules.{requested-each, asked-each, echoed-each, echoed-marks, echoed-reply, mark-stays}
+use Rattle.follower.proofs.Rules.{requested-each, asked-each, echoed-each, echoed-marks, echoed-reply, by-request, in-round-each}
 use Rattle.follower.proofs.Findings.{finding-taken, taken-unmarked}
 
 -- ---- what is sent was checked
@@ -97,15 +97,9 @@ echo-counts-once c s epoch leader j bits time commit a low high long t =
 -- ---- marks stay
 
 pub marks-stay : MarksStay
-unfolding received
-marks-stay c s j time place commit (observeReq e r) q h = absurd (false≢true (sym q))
-marks-stay c s j time place commit (reportReq e r xs) q h =
-    asked-each (λ (d : Followed). marked (d .follower .marks) place ≡ true) c s time commit (medianOf (valuesOf (map (λ (x : Signed). x .said) xs))) h h
-marks-stay c s j time place commit (final a) q h = h
-marks-stay c s j time place commit (finalEcho a) q h = rw (echoed-marks c s j) (mark-stays (s .marks) place (j - 1) h)
-marks-stay c s j time place commit (newEpoch e) q h = h
-marks-stay c s j time place commit (observe e r v g) q h = h
-marks-stay c s j time place commit (report e r xs g) q h = h
+marks-stay c s j time place commit m q h =
+    let still = mark-stays (s .marks) place (j - 1) h in
+    in-round-each c s j time commit (λ d. marked (d .follower .marks) place ≡ true) h h h still still h m q
 
 -- ---- what is not echoed is not kept
 
@@ -130,19 +124,12 @@ abbrev Fine : Followed → Type 0
 Fine d = goodFollower (d .follower) ≡ true
 
 pub good-stays-good : GoodStaysGood
-unfolding received
-good-stays-good c s j time commit (observeReq e r) g =
-    requested-each Fine c s r (good-round 0 r refl) (good-round (s .live) r (good-parts s g .live))
-good-stays-good c s j time commit (reportReq e r xs) g =
-    asked-each Fine c s time commit (medianOf (valuesOf (map (λ (x : Signed). x .said) xs))) (good-signed s g) (good-completed s g)
-good-stays-good c s j time commit (final a) g = good-kept s g
-good-stays-good c s j time commit (finalEcho a) g =
-    let t = nowKept (nowMarked s j) in
-    let p = good-kept (nowMarked s j) (good-marked s g j) in
-    echoed-each Fine c s j (good-completed t p) p
-good-stays-good c s j time commit (newEpoch e) g = g
-good-stays-good c s j time commit (observe e r v w) g = g
-good-stays-good c s j time commit (report e r xs w) g = g
+good-stays-good c s j time commit m g =
+    let marked = good-kept (nowMarked s j) (good-marked s g j) in
+    by-request (λ m. Fine (followOf c s j time commit m))
+    (λ e r. requested-each Fine c s r (good-round 0 r refl) (good-round (s .live) r (good-parts s g .live)))
+    (in-round-each c s j time commit Fine (good-signed s g) (good-completed s g) (good-kept s g) (good-completed (nowKept (nowMarked s j)) marked) marked g)
+    m
 
 -- ---- instances: n = 4 and f = 1, in round 1 of epoch 7, which member 4 leads, before any commit
 

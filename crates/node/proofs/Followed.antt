@@ -39,7 +39,7 @@ use Rattle.follower.specs.declared.Reply.the-variants as reply
 use Rattle.follower.specs.State.{isSet, inRound}
 use Rattle.follower.specs.Rules.{followed, requested, received, echoed, halts, followOf, keptOf}
 use Rattle.follower.specs.Handed.{handedOf}
-use Rattle.follower.proofs.Rules.{requested-each, asked-each, echoed-each}
+use Rattle.follower.proofs.Rules.{requested-each, asked-each, echoed-each, by-request, in-round-each}
 use Rattle.follower.proofs.Bodies.{by-kind, whole-report}
 use Rattle.node.specs.declared.Node.{Node}
 use Rattle.node.specs.State.{withRound}
@@ -109,15 +109,12 @@ abbrev One : Pace → Followed → Type 0
 One p d = (announced (raising (d .raised) p .sent) ≡ []) ⊎ (d .reply ≡ reply.Nothing)
 
 one-sent : (c : Config) (s : Follower) (j time : ℕ) (commit : Commit) (m : Message) (p : Pace) → One p (followOf c s j time commit m)
-unfolding received progressOf
-one-sent c s j time commit (observeReq e r) p = requested-each (One p) c s r (inr refl) (inl refl)
-one-sent c s j time commit (reportReq e r xs) p =
-    asked-each (One p) c s time commit (medianOf (valuesOf (map (λ (x : Signed). x .said) xs))) (inl refl) (inl refl)
-one-sent c s j time commit (final a) p = inl refl
-one-sent c s j time commit (finalEcho a) p = echoed-each (One p) c s j (inl refl) (inl refl)
-one-sent c s j time commit (newEpoch e) p = inl refl
-one-sent c s j time commit (observe e r v g) p = inl refl
-one-sent c s j time commit (report e r xs g) p = inl refl
+unfolding progressOf
+one-sent c s j time commit m p =
+    by-request (λ m. One p (followOf c s j time commit m))
+    (λ e r. requested-each (One p) c s r (inr refl) (inl refl))
+    (in-round-each c s j time commit (One p) (inl refl) (inl refl) (inl refl) (inl refl) (inl refl) (inl refl))
+    m
 
 -- so the length of all that is written is the length of one of the two
 pub sum-fits : (c : Config) (s : Follower) (j time : ℕ) (commit : Commit) (m : Message) (p : Pace) (v : ℤ) {q r : ℕ} → let d = followOf c s j time commit m in q ≡ length (framesOf c (announced (raising (d .raised) p .sent))) → r ≡ length (framesOf c (replying v m (d .reply))) → Fits w64 q → Fits w64 r → Fits w64 (q + r)

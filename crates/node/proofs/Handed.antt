@@ -30,7 +30,7 @@ use Rattle.follower.specs.State.{isSet}
 use Rattle.follower.specs.Takes.{takes, faultOf}
 use Rattle.follower.specs.Rules.{requests, received, followOf}
 use Rattle.follower.specs.Handed.{handedOf, handedPart}
-use Rattle.follower.proofs.Rules.{requested-each, asked-each, echoed-each}
+use Rattle.follower.proofs.Rules.{requested-each, asked-each, echoed-each, by-request, round-stays, completed-stays}
 use Rattle.follower.proofs.Taken.{Report, taken-request, taken-echo}
 use Rattle.follower.proofs.Findings.{finding-taken}
 use Rattle.node.specs.declared.Node.{Node}
@@ -44,7 +44,7 @@ use Rattle.node.specs.Claims.{Checked, HandedWasChecked, Rising, HandedO
 use Rattle.node.proofs.Ruled.{Says}
 use Rattle.node.proofs.Turns.{Turn, paced, moved, followed, led, step-turns, raising-epoch}
 use Rattle.node.proofs.Rounds.{leaves, round-stays}
-use Rattle.node.proofs.Bodies.{frame-stands, body-stands}
+use Rattle.node.proofs.Bodies.{frame-stands, body-stands, stands-long, stands-handed, none-handed}
 use Rattle.node.proofs.Kept.{Keeps, Brings, brought-checked, keeps-brings, keeps-after, begun-few, begun-keeps, all-one}
 
 -- ---- one event
@@ -152,17 +152,6 @@ past-moved : (n v : Node) (a : Attested) → epochOf n < epochOf v → Past n a 
 past-moved n v a e p =
     record { epoch = omega (arith, p .epoch); round = λ h. absurd (omega (arith, p .epoch)); closed = λ h q. absurd (omega (arith, p .epoch)) }
 
-completed-stays : (c : Config) (s : Follower) (j time : ℕ) (commit : Commit) (m : Message) → requests m ≡ false → isSet (s .completed) ≡ true → isSet (followOf c s j time commit m .follower .completed) ≡ true
-unfolding received
-completed-stays c s j time commit (observeReq e r) q h = absurd (false≢true (sym q))
-completed-stays c s j time commit (reportReq e r xs) q h =
-    asked-each (λ (d : Followed). isSet (d .follower .completed) ≡ true) c s time commit (medianOf (valuesOf (map (λ (x : Signed). x .said) xs))) h refl
-completed-stays c s j time commit (final a) q h = h
-completed-stays c s j time commit (finalEcho a) q h = echoed-each (λ (d : Followed). isSet (d .follower .completed) ≡ true) c s j refl h
-completed-stays c s j time commit (newEpoch e) q h = h
-completed-stays c s j time commit (observe e r v g) q h = h
-completed-stays c s j time commit (report e r xs g) q h = h
-
 module _ (n : Node) (a : Attested) (j time : ℕ) (commit : Commit) (p : Past n a) where
   past-stays : (m : Message) → requests m ≡ false → Past (leaves n (followOf (n .config) (n .follower) j time commit m)) a
   past-stays m q =
@@ -170,17 +159,14 @@ module _ (n : Node) (a : Attested) (j time : ℕ) (commit : Commit) (p : Past n 
       past-same n (leaves n r) a (raising-epoch (r .raised) (n .pace)) (round-stays (n .config) (n .follower) j time commit m q) (completed-stays (n .config) (n .follower) j time commit m q) p
 
   past-follows : (m : Message) → takes (n .follower) (epochOf n) (leaderNow n) j m ≡ true → Past (leaves n (followOf (n .config) (n .follower) j time commit m)) a
-  past-follows (observeReq e r) t =
+  past-follows =
+      by-request _
+      (λ e r t.
       let later = taken-request (n .follower) (epochOf n) (leaderNow n) j e r t .later in
       requested-each (λ (d : Followed). Past (leaves n d) a) (n .config) (n .follower) r
       (past-later n _ a (raising-epoch raised.ChangeLeader (n .pace)) later p)
-      (past-later n _ a refl later p)
-  past-follows (reportReq e r xs) t = past-stays (reportReq e r xs) refl
-  past-follows (final b) t = past-stays (final b) refl
-  past-follows (finalEcho b) t = past-stays (finalEcho b) refl
-  past-follows (newEpoch e) t = past-stays (newEpoch e) refl
-  past-follows (observe e r v g) t = past-stays (observe e r v g) refl
-  past-follows (report e r xs g) t = past-stays (report e r xs g) refl
+      (past-later n _ a refl later p))
+      (λ m q t. past-stays m q)
 
 past-turn : (w : Whole) (e : Event) (f : Effect) (a : Attested) → Past (w .node) a → Turn w e f → Past (f .whole-after .node) a
 unfolding pacing moving following leading

@@ -18,12 +18,13 @@ use Rattle.quorum.specs.First.{firstAt, distinct}
 use Rattle.quorum.specs.Marks.{marked, mark}
 use Rattle.quorum.proofs.Cases.{test-false}
 use Rattle.quorum.proofs.First.{distinct-apart, apart-distinct}
+use Rattle.quorum.proofs.Marks.{mark-stays}
 use Rattle.frame.specs.Message.{Message, observe}
 use Rattle.frame.specs.Decode.{epochIn, roundIn, valueIn, observeSignature, kindIn, bodyIn, messageOf, messageIn}
 use Rattle.frame.specs.Check.{bodyAnswer}
 use Rattle.frame.proofs.Entries.{length-part}
 use Rattle.frame.proofs.Framed.{checked-frame}
-use Rattle.frame.proofs.Checked.{checked-observe}
+use Rattle.frame.proofs.Checked.{checked-observe, checked-frame}
 use Rattle.follower.proofs.Rules.{mark-stays}
 use Rattle.follower.proofs.Findings.{finding-taken}
 use Rattle.leader.specs.declared.Leader.{Leader}

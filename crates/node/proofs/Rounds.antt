@@ -2,7 +2,7 @@
 -- takes no part in rounds.
 use mathlib.Core.Path.{_≡_, refl, sym, ap, _∙_, subst}
 use mathlib.Core.Bool.{Bool, true, false, cond, _&&_, false≢true}
-use mathlib.Core.List.{List, [], _∷_, _++_, map}
+use mathlib.Core.List.{List, [], _∷_, _++_}
 use Prim.Native.Nat.{ℕ, _+_, _-_, _≤_, _<_, zero-le}
 use native.Mathlib.Nat.{add-zero, le-refl, le-trans}
 use native.Mathlib.Omega.{arith}
@@ -13,8 +13,7 @@ use Rattle.config.specs.declared.Config.{Config}
 use Rattle.config.specs.declared.Commit.{Commit}
 use Rattle.config.proofs.Facts.{and-true}
 use Rattle.quorum.proofs.Cases.{either}
-use Rattle.price.specs.Median.{medianOf}
-use Rattle.frame.specs.Message.{Signed, Message, newEpoch, observeReq, observe, reportReq, report, final, finalEcho, kindOf}
+use Rattle.frame.specs.Message.{Message, newEpoch, observeReq, observe, reportReq, report, final, finalEcho, kindOf}
 use Rattle.frame.specs.Claims.{Each}
 use Rattle.frame.proofs.Entries.{each-append}
 use Rattle.report.specs.Stands.{valuesOf}
@@ -23,15 +22,14 @@ use Rattle.pacemaker.specs.declared.Sent.{Sent}
 use Rattle.pacemaker.specs.declared.Sent.the-variants as sent
 use Rattle.pacemaker.specs.State.{isStarted}
 use Rattle.pacemaker.specs.Rules.{changeLeaderOf}
-use Rattle.follower.specs.declared.Follower.{Follower}
 use Rattle.follower.specs.declared.Followed.{Followed}
 use Rattle.follower.specs.declared.Raised.the-variants as raised
 use Rattle.follower.specs.declared.Reply.{Reply}
 use Rattle.follower.specs.declared.Reply.the-variants as reply
 use Rattle.follower.specs.State.{isSet, inRound}
 use Rattle.follower.specs.Takes.{takes}
-use Rattle.follower.specs.Rules.{followed as came-to, requests, requested, received, followOf}
-use Rattle.follower.proofs.Rules.{asked-each, echoed-each}
+use Rattle.follower.specs.Rules.{followed as came-to, requests, requested, followOf}
+use Rattle.follower.proofs.Rules.{by-request, round-stays}
 use Rattle.follower.proofs.Taken.{taken-request, taken-live}
 use Rattle.follower.proofs.Findings.{finding-taken}
 use Rattle.leader.specs.declared.Leader.{Leader}
@@ -65,18 +63,6 @@ epoch-run : (w : Whole) (es : List Event) → epochOf (w .node) ≤ epochOf (run
 unfolding run
 epoch-run w [] = le-refl _
 epoch-run w (e ∷ es) = le-trans (epoch-after w e) (epoch-run (after w e) es)
-
--- ---- no round falls: only a request begins another
-
-pub round-stays : (c : Config) (s : Follower) (j time : ℕ) (commit : Commit) (m : Message) → requests m ≡ false → followOf c s j time commit m .follower .round ≡ s .round
-unfolding received
-round-stays c s j time commit (observeReq e r) h = absurd (false≢true (sym h))
-round-stays c s j time commit (reportReq e r xs) h = asked-each (λ (d : Followed). d .follower .round ≡ s .round) c s time commit (medianOf (valuesOf (map (λ (x : Signed). x .said) xs))) refl refl
-round-stays c s j time commit (final a) h = refl
-round-stays c s j time commit (finalEcho a) h = echoed-each (λ (d : Followed). d .follower .round ≡ s .round) c s j refl refl
-round-stays c s j time commit (newEpoch e) h = refl
-round-stays c s j time commit (observe e r v g) h = refl
-round-stays c s j time commit (report e r xs g) h = refl
 
 -- ---- how many OBSERVE are sent
 
@@ -176,13 +162,10 @@ module _ (epoch : ℕ) (n : Node) (v : ℤ) (j time : ℕ) (commit : Commit) (k 
       g
 
   few-follows : (m : Message) → takes (n .follower) (epochOf n) (leaderNow n) j m ≡ true → Fewer m (followOf (n .config) (n .follower) j time commit m)
-  few-follows (observeReq e r) t = let p = taken-request (n .follower) (epochOf n) (leaderNow n) j e r t in few-requested e r (p .current .same) (p .later)
-  few-follows (reportReq e r xs) t = few-stays (reportReq e r xs) refl
-  few-follows (final a) t = few-stays (final a) refl
-  few-follows (finalEcho a) t = few-stays (finalEcho a) refl
-  few-follows (newEpoch e) t = few-stays (newEpoch e) refl
-  few-follows (observe e r u g) t = few-stays (observe e r u g) refl
-  few-follows (report e r xs g) t = few-stays (report e r xs g) refl
+  few-follows =
+      by-request _
+      (λ e r t. let p = taken-request (n .follower) (epochOf n) (leaderNow n) j e r t in few-requested e r (p .current .same) (p .later))
+      (λ m q t. few-stays m q)
 
 module _ (epoch : ℕ) where
   few-turn : (w : Whole) (e : Event) (f : Effect) → Turn w e f → (k : ℕ) → Few epoch (w .node .config .«r_max») (f .whole-after .node) k → Few epoch (w .node .config .«r_max») (w .node) (countObserves epoch (f .sent) + k)

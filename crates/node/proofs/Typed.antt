@@ -1,7 +1,7 @@
 -- Numbers stay what their types hold, whatever a step does: bytes stay bytes, tables as long as they are, epochs, rounds and values in their widths.
 use mathlib.Core.Path.{_≡_, refl, ap, _∙_}
 use mathlib.Core.Bool.{true, false}
-use mathlib.Core.List.{List, [], _∷_, map}
+use mathlib.Core.List.{List, [], _∷_}
 use Prim.Native.Nat.{ℕ, zero, suc, _+_, _-_, _*_, _^_, _≤_, _<_, zero-le}
 use native.Mathlib.Omega.{arith}
 use borrow.Author.Tests.{ltb-false}
@@ -17,12 +17,10 @@ use Rattle.config.specs.declared.Saved.{Saved}
 use Rattle.wire.specs.Numbers.{Bytes}
 use Rattle.wire.proofs.Numbers.{bytes-append, bytes-replicate, bytes-over}
 use Rattle.quorum.proofs.Cases.{either}
-use Rattle.price.specs.Median.{medianOf}
-use Rattle.frame.specs.Message.{Signed, Message, newEpoch, observeReq, observe, reportReq, report, final, finalEcho}
+use Rattle.frame.specs.Message.{Message, newEpoch, observeReq, observe, reportReq, report, final, finalEcho}
 use Rattle.frame.specs.Encode.{attestedBytes, bodyBytes}
 use Rattle.frame.specs.Range.{goodMessage}
 use Rattle.frame.proofs.Ranges.{good-head-facts}
-use Rattle.report.specs.Stands.{valuesOf}
 use Rattle.report.specs.Kept.{keptBytes, keeping}
 use Rattle.pacemaker.specs.declared.Pace.{Pace}
 use Rattle.pacemaker.specs.declared.Paced.{Paced}
@@ -31,11 +29,12 @@ use Rattle.pacemaker.specs.Claims.{InRange}
 use Rattle.pacemaker.proofs.Settle.{step-is}
 use Rattle.pacemaker.proofs.Claims as paced
 use Rattle.follower.specs.declared.Follower.{Follower}
+use Rattle.follower.specs.declared.Followed.{Followed}
 use Rattle.follower.specs.declared.Raised.{Raised}
 use Rattle.follower.specs.declared.Raised.the-variants as raised
 use Rattle.follower.specs.State.{isSet, inRound}
-use Rattle.follower.specs.Rules.{nowSigned, received, followOf, keptOf}
-use Rattle.follower.proofs.Rules.{requested-each, asked-each, echoed-each}
+use Rattle.follower.specs.Rules.{followOf, keptOf}
+use Rattle.follower.proofs.Rules.{requested-each, by-request, in-round-each}
 use Rattle.leader.specs.declared.Leader.{Leader}
 use Rattle.leader.specs.declared.Led.{Led}
 use Rattle.leader.specs.State.{idle, collecting, emptyRound, noRound}
@@ -122,20 +121,21 @@ typed-raised raised.Progress p h t = record { range = paced.others-stay-in-range
 typed-raised raised.ChangeLeader p h t = record { range = paced.change-in-range p (h refl) (t .range); heard = t .heard }
 
 typed-followed : (c : Config) (s : Follower) (j time : ℕ) (commit : Commit) (m : Message) → goodMessage (c .n) m ≡ true → TypedFollower s → TypedFollower (followOf c s j time commit m .follower)
-unfolding received
-typed-followed c s j time commit (observeReq e r) h t =
-    let fresh : (live : ℕ) → TypedFollower (inRound live r) = λ live. record { round = good-head-facts e r h .round .most; marks = refl } in
-    requested-each (λ d. TypedFollower (d .follower)) c s r (fresh 0) (fresh (s .live))
-typed-followed c s j time commit (reportReq e r xs) h t =
-    let same : TypedFollower (nowSigned s) = record { round = t .round; marks = t .marks } in
-    asked-each (λ d. TypedFollower (d .follower)) c s time commit (medianOf (valuesOf (map (λ (x : Signed). x .said) xs))) same (record { round = t .round; marks = t .marks })
-typed-followed c s j time commit (final a) h t = record { round = t .round; marks = t .marks }
-typed-followed c s j time commit (finalEcho a) h t =
+typed-followed c s j time commit m h t =
+    let Typed : Followed → Type 0 = λ d. TypedFollower (d .follower) in
     let long = length-set (s .marks) (j - 1) 1 ∙ t .marks in
-    echoed-each (λ d. TypedFollower (d .follower)) c s j (record { round = t .round; marks = long }) (record { round = t .round; marks = long })
-typed-followed c s j time commit (newEpoch e) h t = t
-typed-followed c s j time commit (observe e r v g) h t = t
-typed-followed c s j time commit (report e r xs g) h t = t
+    by-request (λ m. goodMessage (c .n) m ≡ true → Typed (followOf c s j time commit m))
+    (λ e r h.
+    let fresh : (live : ℕ) → TypedFollower (inRound live r) = λ live. record { round = good-head-facts e r h .round .most; marks = refl } in
+    requested-each Typed c s r (fresh 0) (fresh (s .live)))
+    (λ m q h. in-round-each c s j time commit Typed
+    (record { round = t .round; marks = t .marks })
+    (record { round = t .round; marks = t .marks })
+    (record { round = t .round; marks = t .marks })
+    (record { round = t .round; marks = long })
+    (record { round = t .round; marks = long })
+    t m q)
+    m h
 
 -- ---- the buffers
 

@@ -20,6 +20,13 @@ marks-once (m ∷ marks) (suc place) h e = rw (marks-once marks place (omega ari
 pub marks-twice : (marks : List ℕ) (place : ℕ) → marked marks place ≡ true → mark marks place ≡ marks
 marks-twice marks place e = ap (set marks place) (sym (eqb-true (getD marks place 0) 1 e)) ∙ set-getD marks place 0
 
+pub mark-stays : (marks : List ℕ) (place at : ℕ) → marked marks place ≡ true → marked (mark marks at) place ≡ true
+mark-stays [] place at h = h
+mark-stays (m ∷ marks) zero zero h = refl
+mark-stays (m ∷ marks) zero (suc at) h = h
+mark-stays (m ∷ marks) (suc place) zero h = h
+mark-stays (m ∷ marks) (suc place) (suc at) h = mark-stays marks place at h
+
 pub marks-le-length : (marks : List ℕ) → countMarks marks ≤ length marks
 marks-le-length marks = count-le-length (λ m. eqb m 1) marks
 
