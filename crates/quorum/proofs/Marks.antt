@@ -1,6 +1,6 @@
 -- Laws of marks: a first mark counts for one, a second for nothing; marks are flags.
 use mathlib.Core.Path.{_≡_, refl, ap, sym, _∙_}
-use mathlib.Core.Bool.{Bool, true, false, _&&_, and-assoc, and-true, and-false, and-eq-true-iff}
+use mathlib.Core.Bool.{Bool, true, false, _&&_, and-false}
 use mathlib.Core.List.{List, [], _∷_}
 use Prim.Native.Nat.{ℕ, zero, suc, _≤_, _<_}
 use native.Mathlib.Nat.{le-refl}
@@ -10,7 +10,7 @@ use lib.Dec.{eqb, leb}
 use lib.ListN.{length, getD, set, take, replicate}
 use lib.Seq.{set-getD}
 use Rattle.quorum.specs.Marks.{flags, marked, mark, countMarks}
-use Rattle.quorum.proofs.Counts.{count-le-length, count-none, tick-comm}
+use Rattle.quorum.proofs.Counts.{count-le-length, count-none, tick-comm, every-suc, every-set, every-replicate}
 
 pub marks-once : (marks : List ℕ) (place : ℕ) → place < length marks → marked marks place ≡ false → countMarks (mark marks place) ≡ suc (countMarks marks)
 marks-once [] place h e = absurd (omega arith)
@@ -37,9 +37,7 @@ marks-none n = count-none (λ m. eqb m 1) n 0 refl
 
 pub flags-suc : (marks : List ℕ) (i : ℕ) → i < length marks → flags (take (suc i) marks) ≡ flags (take i marks) && leb (getD marks i 0) 1
 unfolding flags
-flags-suc [] i h = absurd (omega arith)
-flags-suc (m ∷ marks) zero h = and-true (leb m 1)
-flags-suc (m ∷ marks) (suc i) h = rw (flags-suc marks i (omega arith)) (sym (and-assoc (leb m 1) (flags (take i marks)) (leb (getD marks i 0) 1)))
+flags-suc marks i h = every-suc (λ m. leb m 1) 0 marks i h
 
 -- whether the largest so far is a 0 or a 1, after one more: a larger one decides alone, and one that is not larger decides nothing
 decides-alone : (a b : ℕ) (t : Bool) → leb b 1 ≡ t → a < b → leb b 1 ≡ leb a 1 && leb b 1
@@ -59,16 +57,11 @@ flags-not-larger marks i most h inv less = rw (flags-suc marks i h, ← inv) (de
 -- all places are flags after a flag is put into one, or a mark, and where there is none
 pub flags-set : (marks : List ℕ) (place flag : ℕ) → flag ≤ 1 → flags marks ≡ true → flags (set marks place flag) ≡ true
 unfolding flags
-flags-set [] place flag h e = e
-flags-set (m ∷ marks) zero flag h e = rw (le-leb flag 1 h) (and-eq-true-iff (leb m 1) (flags marks) .0 e .1)
-flags-set (m ∷ marks) (suc place) flag h e =
-    let p = and-eq-true-iff (leb m 1) (flags marks) .0 e in
-    rw (p .0) (flags-set marks place flag h (p .1))
+flags-set marks place flag h e = every-set (λ m. leb m 1) marks place flag (le-leb flag 1 h) e
 
 pub flags-mark : (marks : List ℕ) (place : ℕ) → flags marks ≡ true → flags (mark marks place) ≡ true
 flags-mark marks place e = flags-set marks place 1 (le-refl 1) e
 
 pub flags-none : (n : ℕ) → flags (replicate n 0) ≡ true
 unfolding flags
-flags-none zero = refl
-flags-none (suc n) = flags-none n
+flags-none n = every-replicate (λ m. leb m 1) n 0 refl

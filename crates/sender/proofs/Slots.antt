@@ -1,7 +1,7 @@
 -- Laws of slots: the bytes of one, the body kept in it, the times in range, the lowest free one, and the earliest.
-use mathlib.Core.Bool.{Bool, true, false, cond, _&&_, _||_, and-assoc, and-true}
+use mathlib.Core.Bool.{Bool, true, false, cond, _&&_, _||_}
 use mathlib.Core.List.{List, [], _∷_}
-use mathlib.Core.Path.{_≡_, sym, ap, _∙_}
+use mathlib.Core.Path.{_≡_, ap, _∙_}
 use Prim.Native.Nat.{ℕ, zero, suc, _+_, _-_, _*_, _≤_, _<_}
 use native.Mathlib.Nat.{le-refl}
 use native.Mathlib.Numerals.{add-one}
@@ -15,6 +15,7 @@ use Rattle.config.specs.Limits.{members, lastTime, longestDelay, keptSize, slot
 use Rattle.config.specs.declared.Answer.the-variants.{Done}
 use Rattle.wire.specs.Overlay.{over}
 use Rattle.wire.proofs.Overlay.{lent-start}
+use Rattle.quorum.proofs.Counts.{every-suc}
 use Rattle.frame.specs.Check.{bodyAnswer}
 use Rattle.frame.proofs.Checked.{checked-final, checked-fits}
 use Rattle.report.specs.Kept.{keptBytes, keeping}
@@ -48,10 +49,7 @@ slot-keep waiting left body slot room h short e =
 
 pub good-times-suc : (times : List ℕ) (k : ℕ) → k < length times → goodTimes (take (suc k) times) ≡ goodTimes (take k times) && leb (getD times k 0) (lastTime + longestDelay)
 unfolding goodTimes
-good-times-suc [] k h = absurd (omega arith)
-good-times-suc (t ∷ times) zero h = and-true (leb t (lastTime + longestDelay))
-good-times-suc (t ∷ times) (suc k) h =
-    rw (good-times-suc times k (omega arith)) (sym (and-assoc (leb t (lastTime + longestDelay)) (goodTimes (take k times)) (leb (getD times k 0) (lastTime + longestDelay))))
+good-times-suc times k h = every-suc (λ t. leb t (lastTime + longestDelay)) 0 times k h
 
 -- ---- the lowest free slot
 

@@ -15,6 +15,7 @@ use Rattle.wire.specs.Overlay.{over}
 use Rattle.wire.proofs.Overlay.{take-over, over-drop, part-over}
 use Rattle.quorum.specs.Marks.{marked}
 use Rattle.quorum.proofs.Cases.{cases, either, split}
+use Rattle.quorum.proofs.Counts.{every-set, every-replicate}
 use Rattle.frame.specs.Range.{goodAttested}
 use Rattle.frame.specs.Decode.{attestedIn}
 use Rattle.frame.proofs.Access.{part-of-take}
@@ -32,16 +33,11 @@ use Rattle.sender.proofs.Queue.{heldIn}
 
 pub times-set : (times : List ℕ) (place time : ℕ) → time ≤ lastTime + longestDelay → goodTimes times ≡ true → goodTimes (set times place time) ≡ true
 unfolding goodTimes
-times-set [] place time h e = e
-times-set (t ∷ times) zero time h e = rw (le-leb time (lastTime + longestDelay) h) (and-true (leb t (lastTime + longestDelay)) (goodTimes times) e .1)
-times-set (t ∷ times) (suc place) time h e =
-    let p = and-true (leb t (lastTime + longestDelay)) (goodTimes times) e in
-    rw (p .0) (times-set times place time h (p .1))
+times-set times place time h e = every-set (λ t. leb t (lastTime + longestDelay)) times place time (le-leb time (lastTime + longestDelay) h) e
 
 pub times-none : (n : ℕ) → goodTimes (replicate n 0) ≡ true
 unfolding goodTimes
-times-none zero = refl
-times-none (suc n) = times-none n
+times-none n = every-replicate (λ t. leb t (lastTime + longestDelay)) n 0 refl
 
 -- ---- the lowest free slot
 

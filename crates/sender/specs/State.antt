@@ -1,6 +1,6 @@
 -- Document 01, "Sender" and "Numbers": what a sender holds, what its slots' bytes say, and which states are in range.
 use mathlib.Core.Bool.{Bool, true, not, _&&_, _||_}
-use mathlib.Core.List.{List, [], _∷_}
+use mathlib.Core.List.{List}
 use Prim.Native.Nat.{ℕ, zero, suc, _+_, _*_}
 use lib.Dec.{eqb, leb}
 use lib.IntN.{pos}
@@ -9,6 +9,7 @@ use Rattle.config.specs.Limits.{lastTime, longestDelay, keptSize, slots, waitin
 use Rattle.config.specs.Bounds.{goodConfig, paired}
 use Rattle.config.specs.declared.Config.{Config}
 use Rattle.wire.specs.Numbers.{part}
+use Rattle.quorum.specs.Counts.{every}
 use Rattle.quorum.specs.Marks.{flags, marked}
 use Rattle.frame.specs.Message.{Attested}
 use Rattle.frame.specs.Decode.{attestedIn}
@@ -44,8 +45,8 @@ freshSender c = record { config = c; accepted = noneAccepted; taken = replicate 
 
 -- "Times .. are at most 2^53 (a waiting report's time 691,200,000 more)"
 unfoldable pub goodTimes : List ℕ → Bool
-goodTimes [] = true
-goodTimes (t ∷ l) = leb t (lastTime + longestDelay) && goodTimes l
+unfolding every
+goodTimes times = every (λ t. leb t (lastTime + longestDelay)) times
 
 -- each of the first slots is free, or holds a body in range
 unfoldable pub goodSlots : ℕ → Sender → List ℕ → Bool
