@@ -1,6 +1,6 @@
 -- What a body that passed LENGTH and RANGE is to a follower: a message of its kind, a list or a report that lies within it, and no more than
 -- the kept buffer holds.
-use mathlib.Core.Path.{_≡_, refl}
+use mathlib.Core.Path.{_≡_}
 use mathlib.Core.List.{List}
 use Prim.Native.Nat.{ℕ, _≤_}
 use native.Mathlib.Omega.{arith}
@@ -8,9 +8,9 @@ use borrow.Author.Tests.{le-leb}
 use lib.ListN.{length, drop}
 use Rattle.config.specs.Limits.{members, keptSize}
 use Rattle.config.specs.declared.Answer.the-variants.{Done}
-use Rattle.frame.specs.Message.{Message, newEpoch, observeReq, observe, reportReq, report, final, finalEcho}
+use Rattle.frame.specs.Message.{reportReq}
 use Rattle.frame.specs.Table.{shapeOf}
-use Rattle.frame.specs.Decode.{epochIn, roundIn, valueIn, observeSignature, countIn, listPlace, signedAt, observationsIn, signedIn, reportSignature, attestedIn, messageOf}
+use Rattle.frame.specs.Decode.{epochIn, roundIn, countIn, listPlace, signedAt, observationsIn, signedIn}
 use Rattle.frame.specs.Check.{bodyAnswer}
 use Rattle.frame.proofs.Ranges.{kind-cases}
 use Rattle.frame.proofs.Entries.{length-entries}
@@ -19,25 +19,6 @@ use Rattle.report.specs.Faults.{firstFault}
 use Rattle.report.specs.Stands.{listFault, bitsFault}
 use Rattle.report.specs.Whole.{WholeList, WholeReport}
 use Rattle.follower.specs.Takes.{faultOf}
-
--- ---- a message of each kind
-
--- to show something of a body's message it is enough to show it of each kind that the body can have
-pub by-kind : (P : Message → Type 0) (b : List ℕ) (kind : ℕ) → 1 ≤ kind → kind ≤ 7 → (kind ≡ 1 → P (newEpoch (epochIn b))) → (kind ≡ 2 → P (observeReq (epochIn b) (roundIn b))) → (kind ≡ 3 → P (observe (epochIn b) (roundIn b) (valueIn b) (observeSignature b))) → (kind ≡ 4 → P (reportReq (epochIn b) (roundIn b) (signedIn b))) → (kind ≡ 5 → P (report (epochIn b) (roundIn b) (observationsIn (shapeOf 5 .entry) b) (reportSignature b))) → (kind ≡ 6 → P (final (attestedIn b))) → (kind ≡ 7 → P (finalEcho (attestedIn b))) → P (messageOf kind b)
-unfolding messageOf
-by-kind P b kind low high p₁ p₂ p₃ p₄ p₅ p₆ p₇ =
-    kind-cases
-    (λ (k : ℕ). kind ≡ k → P (messageOf k b))
-    p₁
-    p₂
-    p₃
-    p₄
-    p₅
-    p₆
-    p₇
-    kind
-    (rw (le-leb 1 kind low, le-leb kind 7 high))
-    refl
 
 -- ---- REPORT-REQ
 

@@ -4,7 +4,7 @@ use mathlib.Core.List.{List}
 use mathlib.Core.Path.{_≡_, refl, sym, _∙_}
 use Prim.Native.Nat.{ℕ, zero, suc, _+_, _-_, _*_, _≤_, _<_}
 use native.Mathlib.Omega.{arith}
-use borrow.Author.Tests.{eqb-true, eqb-false, eq-eqb, ne-eqb, ltb-true, lt-ltb, le-ltb, le-leb}
+use borrow.Author.Tests.{eqb-true, eqb-false, eq-eqb, ne-eqb, ltb-true, lt-ltb, le-ltb}
 use lib.Dec.{eqb, ltb}
 use lib.IntN.{ℤ}
 use Rattle.config.specs.declared.Config.{Config}
@@ -13,7 +13,7 @@ use Rattle.quorum.specs.Marks.{marked}
 use Rattle.quorum.proofs.Cases.{either}
 use Rattle.frame.specs.Message.{Message, Observation, Signed, Attested, newEpoch, observeReq, observe, reportReq, report, final, finalEcho}
 use Rattle.frame.specs.Decode.{messageOf}
-use Rattle.frame.proofs.Ranges.{kind-cases}
+use Rattle.frame.proofs.Messages.{by-kind}
 use Rattle.leader.specs.declared.Leader.{Leader}
 use Rattle.leader.specs.declared.Led.{Led}
 use Rattle.leader.specs.declared.Asking.the-variants as asking
@@ -94,8 +94,5 @@ module _ (s : Leader) (leads : Bool) (epoch j e r : ℕ) where
 
 -- what holds of every message that is not a leader's holds of a body of another kind than OBSERVE and REPORT
 pub other-kind : (P : Message → Type 0) → ((e : ℕ) → P (newEpoch e)) → ((e r : ℕ) → P (observeReq e r)) → ((e r : ℕ) (xs : List Signed) → P (reportReq e r xs)) → ((a : Attested) → P (final a)) → ((a : Attested) → P (finalEcho a)) → (kind : ℕ) (b : List ℕ) → 1 ≤ kind → kind ≤ 7 → (kind ≡ 3 → ⊥) → (kind ≡ 5 → ⊥) → P (messageOf kind b)
-unfolding messageOf
 other-kind P one two four six seven kind b low high p q =
-    kind-cases (λ (k : ℕ). (k ≡ 3 → ⊥) → (k ≡ 5 → ⊥) → P (messageOf k b))
-    (λ p q. one _) (λ p q. two _ _) (λ p q. absurd (p refl)) (λ p q. four _ _ _) (λ p q. absurd (q refl)) (λ p q. six _) (λ p q. seven _)
-    kind (rw (le-leb 1 kind low, le-leb kind 7 high)) p q
+    by-kind P b kind low high (λ _. one _) (λ _. two _ _) (λ e. absurd (p e)) (λ _. four _ _ _) (λ e. absurd (q e)) (λ _. six _) (λ _. seven _)

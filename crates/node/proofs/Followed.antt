@@ -23,6 +23,10 @@ use Rattle.frame.specs.Encode.{attestedBytes}
 use Rattle.frame.specs.Decode.{roundIn, signedIn, attestedIn, messageOf, bodyIn, messageIn}
 use Rattle.frame.specs.Range.{goodAttested}
 use Rattle.frame.specs.Check.{bodyAnswer}
+use Rattle.frame.proofs.Messages.{by-kind}
+use Rattle.frame.proofs.Entries.{length-entries}
+use Rattle.frame.proofs.Ranges.{good-attested-facts}
+use Rattle.frame.proofs.Readable.{final-fits, readable-long}
 use Rattle.report.specs.Stands.{valuesOf}
 use Rattle.report.specs.Whole.{WholeReport}
 use Rattle.report.specs.Kept.{keeping}
@@ -40,7 +44,7 @@ use Rattle.follower.specs.State.{isSet, inRound}
 use Rattle.follower.specs.Rules.{followed, requested, received, echoed, halts, followOf, keptOf}
 use Rattle.follower.specs.Handed.{handedOf}
 use Rattle.follower.proofs.Rules.{requested-each, asked-each, echoed-each, by-request, in-round-each}
-use Rattle.follower.proofs.Bodies.{by-kind, whole-report}
+use Rattle.follower.proofs.Bodies.{whole-report}
 use Rattle.node.specs.declared.Node.{Node}
 use Rattle.node.specs.State.{withRound}
 use Rattle.node.specs.Event.{Whole, Delivery}

@@ -13,11 +13,12 @@ use Rattle.price.specs.Median.{medianOf}
 use Rattle.frame.specs.Message.{Signed, Message}
 use Rattle.frame.specs.Decode.{signedIn, attestedIn, messageOf}
 use Rattle.frame.specs.Encode.{attestedBytes}
+use Rattle.frame.proofs.Messages.{by-kind}
 use Rattle.frame.proofs.RoundTrip.{final-forth}
 use Rattle.frame.proofs.Checked.{said-in, checked-head, checked-report-req}
 use Rattle.report.specs.Stands.{valuesOf}
 use Rattle.follower.specs.Rules.{requested, followOf, keptOf}
-use Rattle.follower.proofs.Bodies.{by-kind, whole-list, checked-attested, fits-kept}
+use Rattle.follower.proofs.Bodies.{whole-list, checked-attested, fits-kept}
 use borrow.Author.Needs.{needs}
 use Rattle.follower.proofs.Follower.follow.Statement.{statement}
 use Rattle.follower.proofs.Follower.follow.Tie as tie

@@ -7,7 +7,7 @@ use Rattle.frame.specs.Message.{Message}
 use Rattle.frame.specs.Decode.{messageOf}
 use Rattle.frame.proofs.Checked.{checked-head}
 use Rattle.follower.specs.Rules.{halts}
-use Rattle.follower.proofs.Bodies.{by-kind}
+use Rattle.frame.proofs.Messages.{by-kind}
 use Rattle.follower.proofs.Follower.halts.Statement.{statement}
 use Rattle.follower.proofs.Follower.halts.Tie as tie
 

@@ -9,7 +9,7 @@ use Rattle.frame.specs.Message.{Message}
 use Rattle.frame.specs.Decode.{messageOf}
 use Rattle.frame.proofs.Checked.{checked-head}
 use Rattle.follower.specs.Takes.{takes}
-use Rattle.follower.proofs.Bodies.{by-kind}
+use Rattle.frame.proofs.Messages.{by-kind}
 use Rattle.follower.proofs.Follower.takes.Statement.{statement}
 use Rattle.follower.proofs.Follower.takes.Tie as tie
 

@@ -5,11 +5,12 @@ use native.Mathlib.Omega.{arith}
 use denote.Ref.{now}
 use Rattle.frame.specs.Message.{Message}
 use Rattle.frame.specs.Decode.{observationsIn, messageOf}
+use Rattle.frame.proofs.Messages.{by-kind}
 use Rattle.report.specs.declared.Fault.the-variants.{Nothing}
 use Rattle.report.specs.Faults.{firstFault}
 use Rattle.report.specs.Stands.{listFault, bitsFault}
 use Rattle.follower.specs.Takes.{faultOf}
-use Rattle.follower.proofs.Bodies.{by-kind, whole-list, list-faults, whole-report}
+use Rattle.follower.proofs.Bodies.{whole-list, list-faults, whole-report}
 use borrow.Author.Needs.{needs}
 use Rattle.follower.proofs.taking.fault_of.Statement.{statement}
 use Rattle.follower.proofs.taking.fault_of.Tie as tie

@@ -5,7 +5,7 @@ use borrow.Author.Needs.{needs}
 use denote.Ref.{now}
 use Rattle.frame.specs.Message.{Message}
 use Rattle.frame.specs.Decode.{messageOf}
-use Rattle.follower.proofs.Bodies.{by-kind}
+use Rattle.frame.proofs.Messages.{by-kind}
 use Rattle.node.specs.Answers.{followerAnswer, ruleAnswer}
 use Rattle.node.proofs.Node.rule_answer.Statement.{statement}
 use Rattle.node.proofs.Node.rule_answer.Tie as tie
