@@ -2,10 +2,10 @@
 use mathlib.Core.Bool.{Bool, true, false, _&&_, Bool·beq, cond, false≢true}
 use mathlib.Core.List.{List, [], _∷_}
 use mathlib.Core.Path.{_≡_, refl, sym, ap, _∙_}
-use Prim.Native.Nat.{ℕ, zero, suc, _+_, _*_, _%_, _≤_, _<_}
+use Prim.Native.Nat.{ℕ, zero, suc, _+_, _-_, _*_, _%_, _≤_, _<_}
 use native.Mathlib.Nat.{mod-lt}
 use native.Mathlib.Omega.{arith, by-contra}
-use borrow.Author.Tests.{leb-true, ltb-true, eqb-true, eq-eqb, ne-eqb}
+use borrow.Author.Tests.{leb-true, leb-false, le-leb, lt-leb, ltb-true, eqb-true, eq-eqb, ne-eqb}
 use lib.Dec.{eqb, leb, ltb}
 use lib.ListN.{length, take, getD, List·getD-eq-default}
 use Rattle.config.specs.Limits.{members, mostRounds, mostAlpha, lastTime, longestStage, mostStages}
@@ -24,12 +24,20 @@ and-true true b h = (refl, h)
 and-true false b h = absurd (false≢true h)
 
 -- fewer tests than five are `true`s and those tests
-and-five : (a b c d e : Bool) → a && b && c && d && e ≡ true → (a ≡ true) × (b ≡ true) × (c ≡ true) × (d ≡ true) × (e ≡ true)
+pub and-five : (a b c d e : Bool) → a && b && c && d && e ≡ true → (a ≡ true) × (b ≡ true) × (c ≡ true) × (d ≡ true) × (e ≡ true)
 and-five true true true true e h = (refl, refl, refl, refl, h)
 and-five true true true false e h = absurd (false≢true h)
 and-five true true false d e h = absurd (false≢true h)
 and-five true false c d e h = absurd (false≢true h)
 and-five false b c d e h = absurd (false≢true h)
+
+-- k and m together are within n exactly if m is within what k leaves of n
+pub leb-left : (k m n : ℕ) → k ≤ n → leb (k + m) n ≡ leb m (n - k)
+leb-left k m n h = go (leb m (n - k)) refl
+  where
+    go : (b : Bool) → leb m (n - k) ≡ b → leb (k + m) n ≡ b
+    go true e = le-leb (k + m) n (omega (arith, leb-true m (n - k) e))
+    go false e = lt-leb (k + m) n (omega (arith, leb-false m (n - k) e))
 
 same-true : (a b : Bool) → Bool·beq a b ≡ true → a ≡ b
 same-true true true h = refl

@@ -1,10 +1,10 @@
 -- A state in range stays so where a flag is raised, a member is marked or a round is begun.
 use mathlib.Core.Path.{_≡_}
-use mathlib.Core.Bool.{true, _&&_}
+use mathlib.Core.Bool.{true}
 use Prim.Native.Nat.{ℕ, _-_}
 use lib.Dec.{leb}
 use Rattle.config.specs.Limits.{members}
-use Rattle.config.proofs.Facts.{and-true}
+use Rattle.config.proofs.Facts.{and-five}
 use Rattle.quorum.specs.Marks.{flags}
 use Rattle.quorum.proofs.Marks.{flags-mark, flags-none}
 use Rattle.follower.specs.declared.Follower.{Follower}
@@ -22,11 +22,8 @@ pub record Good (s : Follower) : Type 0 where
 pub good-parts : (s : Follower) → goodFollower s ≡ true → Good s
 unfolding goodFollower
 good-parts s g =
-    let p = and-true (leb (s .live) 1 && leb (s .signed) 1 && leb (s .completed) 1 && leb (s .kept) 1) (flags (s .marks)) g in
-    let q = and-true (leb (s .live) 1 && leb (s .signed) 1 && leb (s .completed) 1) (leb (s .kept) 1) (p .0) in
-    let r = and-true (leb (s .live) 1 && leb (s .signed) 1) (leb (s .completed) 1) (q .0) in
-    let t = and-true (leb (s .live) 1) (leb (s .signed) 1) (r .0) in
-    record { live = t .0; signed = t .1; completed = r .1; kept = q .1; marks = p .1 }
+    let p = and-five (leb (s .live) 1) (leb (s .signed) 1) (leb (s .completed) 1) (leb (s .kept) 1) (flags (s .marks)) g in
+    record { live = p .0; signed = p .1; completed = p .2; kept = p .3; marks = p .4 }
 
 pub good-round : (live round : ℕ) → leb live 1 ≡ true → goodFollower (inRound live round) ≡ true
 unfolding goodFollower

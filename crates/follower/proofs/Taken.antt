@@ -1,11 +1,11 @@
 -- What it tells of a message that a follower takes it: its conditions, one by one.
 use mathlib.Core.Path.{_≡_}
 use mathlib.Core.List.{List}
-use mathlib.Core.Bool.{true, false, not, _&&_, false≢true}
+use mathlib.Core.Bool.{true, false, not, false≢true}
 use Prim.Native.Nat.{ℕ, _-_, _<_}
 use borrow.Author.Tests.{eqb-true, ltb-true, not-true}
 use lib.Dec.{eqb, ltb}
-use Rattle.config.proofs.Facts.{and-true}
+use Rattle.config.proofs.Facts.{and-true, and-five}
 use Rattle.quorum.specs.Marks.{marked}
 use Rattle.frame.specs.Message.{Signed, Attested, Message, newEpoch, observeReq, observe, reportReq, report, final, finalEcho}
 use Rattle.follower.specs.declared.Follower.{Follower}
@@ -27,8 +27,8 @@ module _ (s : Follower) (epoch leader j : ℕ) where
 
   pub taken-request : (e r : ℕ) → takes s epoch leader j (observeReq e r) ≡ true → Request e r
   taken-request e r h =
-      let p = and-true (current s epoch e && eqb j leader) (ltb (s .round) r) h in
-      record { current = current-facts e (and-true (current s epoch e) (eqb j leader) (p .0) .0); later = ltb-true _ _ (p .1) }
+      let p = and-five true true (current s epoch e) (eqb j leader) (ltb (s .round) r) h in
+      record { current = current-facts e (p .2); later = ltb-true _ _ (p .4) }
 
   pub record Report (a : Attested) : Type 0 where
     pub current : Current (a .epoch)
@@ -36,27 +36,17 @@ module _ (s : Follower) (epoch leader j : ℕ) where
 
   pub taken-final : (a : Attested) → takes s epoch leader j (final a) ≡ true → Report a × (isSet (s .kept) ≡ false)
   taken-final a h =
-      let here = current s epoch (a .epoch) in
-      let p = and-true (here && eqb j leader && eqb (a .round) (s .round)) (not (isSet (s .kept))) h in
-      let q = and-true (here && eqb j leader) (eqb (a .round) (s .round)) (p .0) in
-      (record { current = current-facts (a .epoch) (and-true here (eqb j leader) (q .0) .0); round = eqb-true _ _ (q .1) }, not-true _ (p .1))
+      let p = and-five true (current s epoch (a .epoch)) (eqb j leader) (eqb (a .round) (s .round)) (not (isSet (s .kept))) h in
+      (record { current = current-facts (a .epoch) (p .1); round = eqb-true _ _ (p .3) }, not-true _ (p .4))
 
   pub taken-echo : (a : Attested) → takes s epoch leader j (finalEcho a) ≡ true → Report a × (marked (s .marks) (j - 1) ≡ false) × (isSet (s .completed) ≡ false)
   taken-echo a h =
-      let here = current s epoch (a .epoch) in
-      let new = not (marked (s .marks) (j - 1)) in
-      let p = and-true (here && eqb (a .round) (s .round) && new) (not (isSet (s .completed))) h in
-      let q = and-true (here && eqb (a .round) (s .round)) new (p .0) in
-      let r = and-true here (eqb (a .round) (s .round)) (q .0) in
-      (record { current = current-facts (a .epoch) (r .0); round = eqb-true _ _ (r .1) }, not-true _ (q .1), not-true _ (p .1))
+      let p = and-five true (current s epoch (a .epoch)) (eqb (a .round) (s .round)) (not (marked (s .marks) (j - 1))) (not (isSet (s .completed))) h in
+      (record { current = current-facts (a .epoch) (p .1); round = eqb-true _ _ (p .2) }, not-true _ (p .3), not-true _ (p .4))
 
   taken-list : (e r : ℕ) (xs : List Signed) → takes s epoch leader j (reportReq e r xs) ≡ true → Current e
   taken-list e r xs h =
-      let here = current s epoch e in
-      let p = and-true (here && eqb j leader && eqb r (s .round) && not (isSet (s .signed))) (not (isSet (s .completed))) h in
-      let q = and-true (here && eqb j leader && eqb r (s .round)) (not (isSet (s .signed))) (p .0) in
-      let t = and-true (here && eqb j leader) (eqb r (s .round)) (q .0) in
-      current-facts e (and-true here (eqb j leader) (t .0) .0)
+      current-facts e (and-five (current s epoch e) (eqb j leader) (eqb r (s .round)) (not (isSet (s .signed))) (not (isSet (s .completed))) h .0)
 
   -- whatever it is, the instance is not halted
   pub taken-live : (m : Message) → takes s epoch leader j m ≡ true → isSet (s .live) ≡ true

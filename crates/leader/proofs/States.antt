@@ -1,5 +1,5 @@
 -- States that rules lead to: tables stay in range, each phase tells how many have observed, and within a round no phase comes again.
-use mathlib.Core.Bool.{true, _&&_}
+use mathlib.Core.Bool.{true}
 use mathlib.Core.List.{List}
 use mathlib.Core.Path.{_≡_, _∙_}
 use Prim.Native.Nat.{ℕ, suc, _-_, _*_, _≤_}
@@ -12,7 +12,7 @@ use lib.IntN.{ℤ}
 use lib.ListN.{length, take, replicate, length-set, length-replicate}
 use Rattle.config.specs.Limits.{members}
 use Rattle.config.specs.declared.Config.{Config}
-use Rattle.config.proofs.Facts.{and-true}
+use Rattle.config.proofs.Facts.{and-five}
 use Rattle.quorum.specs.Marks.{flags, countMarks}
 use Rattle.quorum.proofs.Cases.{cases, split}
 use Rattle.quorum.proofs.Counts.{count-split}
@@ -40,11 +40,8 @@ pub record InRange (s : Leader) : Type 0 where
 pub good-facts : (s : Leader) → goodLeader s ≡ true → InRange s
 unfolding goodLeader
 good-facts s h =
-    let p = and-true (leb (s .phase) finished && leb (s .«t_round») 1 && leb (s .«t_grace») 1 && flags (s .observed)) (flags (s .reported)) h in
-    let q = and-true (leb (s .phase) finished && leb (s .«t_round») 1 && leb (s .«t_grace») 1) (flags (s .observed)) (p .0) in
-    let r = and-true (leb (s .phase) finished && leb (s .«t_round») 1) (leb (s .«t_grace») 1) (q .0) in
-    let t = and-true (leb (s .phase) finished) (leb (s .«t_round») 1) (r .0) in
-    record { phase = leb-true _ _ (t .0); «t_round» = leb-true _ _ (t .1); «t_grace» = leb-true _ _ (r .1); observed = q .1; reported = p .1 }
+    let p = and-five (leb (s .phase) finished) (leb (s .«t_round») 1) (leb (s .«t_grace») 1) (flags (s .observed)) (flags (s .reported)) h in
+    record { phase = leb-true _ _ (p .0); «t_round» = leb-true _ _ (p .1); «t_grace» = leb-true _ _ (p .2); observed = p .3; reported = p .4 }
 
 pub facts-good : (s : Leader) → InRange s → goodLeader s ≡ true
 unfolding goodLeader

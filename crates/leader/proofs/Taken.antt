@@ -9,7 +9,7 @@ use borrow.Author.Tests.{ltb-true, eqb-true, not-true}
 use lib.Dec.{eqb, ltb}
 use lib.IntN.{ℤ}
 use Rattle.config.specs.declared.Config.{Config}
-use Rattle.config.proofs.Facts.{and-true}
+use Rattle.config.proofs.Facts.{and-five}
 use Rattle.quorum.specs.Marks.{marked}
 use Rattle.quorum.proofs.Cases.{cases}
 use Rattle.frame.specs.Message.{Observation, observe, report}
@@ -29,9 +29,8 @@ grace-leads n f s false h = h
 
 pub fired-grace : (n f : ℕ) (s : Leader) → firesGrace n f s true ≡ true → (s .phase ≡ inGrace) × (2 * f < observedBy n s)
 fired-grace n f s e =
-    let armed = eqb (s .«t_grace») 1 && eqb (s .phase) inGrace in
-    let p = and-true armed (ltb (2 * f) (observedBy n s)) (and-true (armed && ltb (2 * f) (observedBy n s)) (ltb 0 (s .round)) e .0) in
-    (eqb-true (s .phase) inGrace (and-true (eqb (s .«t_grace») 1) (eqb (s .phase) inGrace) (p .0) .1), ltb-true (2 * f) (observedBy n s) (p .1))
+    let p = and-five true (eqb (s .«t_grace») 1) (eqb (s .phase) inGrace) (ltb (2 * f) (observedBy n s)) (ltb 0 (s .round)) e in
+    (eqb-true (s .phase) inGrace (p .2), ltb-true (2 * f) (observedBy n s) (p .3))
 
 pub grace-next : (c : Config) (s : Leader) (leads : Bool) → firesGrace (c .n) (c .f) s leads ≡ true → Next c s (closing s .leader)
 grace-next c s leads h = by-grace (rw (grace-leads (c .n) (c .f) s leads h) at h)
@@ -47,11 +46,8 @@ pub record InTime (s : Leader) (leads : Bool) (epoch e r : ℕ) : Type 0 where
 -- with what the phase and the member's mark are to be
 in-time : (s : Leader) (leads : Bool) (epoch e r : ℕ) (phase new : Bool) → current leads epoch e && phase && eqb r (s .round) && new ≡ true → InTime s leads epoch e r × (phase ≡ true) × (new ≡ true)
 in-time s leads epoch e r phase new h =
-    let p = and-true (current leads epoch e && phase && eqb r (s .round)) new h in
-    let q = and-true (current leads epoch e && phase) (eqb r (s .round)) (p .0) in
-    let k = and-true (current leads epoch e) phase (q .0) in
-    let l = and-true leads (eqb e epoch) (k .0) in
-    (record { leading = l .0; epoch-same = eqb-true e epoch (l .1); round-same = eqb-true r (s .round) (q .1) }, k .1, p .1)
+    let p = and-five leads (eqb e epoch) phase (eqb r (s .round)) new h in
+    (record { leading = p .0; epoch-same = eqb-true e epoch (p .1); round-same = eqb-true r (s .round) (p .3) }, p .2, p .4)
 
 -- an OBSERVE comes while collecting or in grace, and is the member's first
 pub record TakenObserve (s : Leader) (leads : Bool) (epoch j e r : ℕ) : Type 0 where

@@ -1,11 +1,8 @@
 -- Laws of the sums over accounts, for any number of accounts: how one account more, or another one at a place, changes them.
-use mathlib.Core.Bool.{Bool, true, false}
 use mathlib.Core.List.{List, [], _∷_}
-use mathlib.Core.Path.{_≡_, refl}
-use Prim.Native.Nat.{ℕ, zero, suc, _+_, _-_, _≤_, _<_}
+use mathlib.Core.Path.{_≡_}
+use Prim.Native.Nat.{ℕ, zero, suc, _+_, _<_}
 use native.Mathlib.Omega.{arith}
-use borrow.Author.Tests.{leb-true, leb-false, le-leb, lt-leb}
-use lib.Dec.{leb}
 use lib.ListN.{length, set, drop}
 use lib.Seq.{drop-cons}
 use Rattle.ledger.specs.declared.Account.{Account}
@@ -22,11 +19,3 @@ sums-set (b ∷ l) (suc k) a h = let r = sums-set l k a (omega arith) in (omega 
 pub sums-next : (l : List Account) (k : ℕ) → k < length l → balances (drop k l) + paidOut (drop k l) ≡ accountAt l k .balance + accountAt l k .paid + (balances (drop (suc k) l) + paidOut (drop (suc k) l))
 unfolding balances paidOut
 sums-next l k h = rw (drop-cons l k noMoney) (omega arith)
-
--- k and m together are within n exactly if m is within what k leaves of n
-pub leb-left : (k m n : ℕ) → k ≤ n → leb (k + m) n ≡ leb m (n - k)
-leb-left k m n h = go (leb m (n - k)) refl
-  where
-    go : (b : Bool) → leb m (n - k) ≡ b → leb (k + m) n ≡ b
-    go true e = le-leb (k + m) n (omega (arith, leb-true m (n - k) e))
-    go false e = lt-leb (k + m) n (omega (arith, leb-false m (n - k) e))

@@ -1,7 +1,7 @@
 -- How the checks of a call stand one after another: what a check that passed tells, and that STATE and ROOM come before the event's own.
 use mathlib.Core.Bool.{Bool, true, false, not, cond, _&&_}
 use mathlib.Core.List.{List}
-use mathlib.Core.Path.{_≡_, refl, ap}
+use mathlib.Core.Path.{_≡_, refl, ap, sym, _∙_}
 use Prim.Native.Nat.{ℕ, _+_, _-_, _≤_}
 use native.Mathlib.Omega.{arith}
 use borrow.Author.Tests.{leb-true, leb-false, le-leb, lt-leb, not-false}
@@ -68,13 +68,6 @@ module _ (room : Bool) (n : Node) (kept : List ℕ) (a : Answer) where
       go false roomy = refl
 
 -- a part of k behind a position
-pub leb-behind : (k at m : ℕ) → at ≤ m → leb k (m - at) ≡ leb (at + k) m
-leb-behind k at m h = go (leb (at + k) m) refl
-  where
-    go : (b : Bool) → leb (at + k) m ≡ b → leb k (m - at) ≡ b
-    go true e = le-leb k (m - at) (omega (arith, leb-true (at + k) m e))
-    go false e = lt-leb k (m - at) (omega (arith, leb-false (at + k) m e))
-
 -- ---- the event's own
 
 module _ (n : Node) where

@@ -1,6 +1,6 @@
 -- What holds of every state that rules lead to, a bound on all that is heard, and what being in range says in plain facts.
 use mathlib.Core.Path.{_≡_, _∙_}
-use mathlib.Core.Bool.{true, _&&_}
+use mathlib.Core.Bool.{true}
 use mathlib.Core.List.{List, [], _∷_}
 use Prim.Native.Nat.{ℕ, zero, suc, _-_, _*_, _≤_, zero-le}
 use native.Mathlib.Omega.{arith}
@@ -8,7 +8,7 @@ use borrow.Author.Tests.{leb-true, le-leb}
 use lib.Dec.{leb}
 use lib.ListN.{length, take, getD, set, replicate, length-set, length-replicate}
 use Rattle.config.specs.Limits.{members}
-use Rattle.config.proofs.Facts.{and-true}
+use Rattle.config.proofs.Facts.{and-five}
 use Rattle.quorum.specs.Counts.{best, reached}
 use Rattle.quorum.proofs.Counts.{candidate-le, reached-none}
 use Rattle.pacemaker.specs.declared.Pace.{Pace}
@@ -84,9 +84,7 @@ pub record Good (p : Pace) : Type 0 where
 pub good-facts : (p : Pace) → goodPace p ≡ true → Good p
 unfolding goodPace
 good-facts p h =
-    let (t, r) = and-true (leb (p .epoch) (p .highest) && leb (p .started) 1 && leb (p .progress) 1) (leb (p .resend) 1) h in
-    let (u, g) = and-true (leb (p .epoch) (p .highest) && leb (p .started) 1) (leb (p .progress) 1) t in
-    let (o, s) = and-true (leb (p .epoch) (p .highest)) (leb (p .started) 1) u in
+    let (_, o, s, g, r) = and-five true (leb (p .epoch) (p .highest)) (leb (p .started) 1) (leb (p .progress) 1) (leb (p .resend) 1) h in
     record { order = leb-true _ _ o; started = leb-true _ _ s; progress = leb-true _ _ g; resend = leb-true _ _ r }
 
 pub facts-good : (p : Pace) → Good p → goodPace p ≡ true

@@ -10,9 +10,10 @@ use borrow.Author.Needs.{needs}
 use borrow.Author.Tests.{lt-leb}
 use lib.Dec.{leb, leb·zero}
 use lib.ListN.{length, drop, drop-of-length-le}
+use Rattle.config.proofs.Facts.{leb-left}
 use Rattle.ledger.specs.declared.Account.{Account}
 use Rattle.ledger.specs.Ledger.{accountAt, balances, paidOut}
-use Rattle.ledger.proofs.Sums.{sums-next, leb-left}
+use Rattle.ledger.proofs.Sums.{sums-next}
 use Rattle.ledger.proofs.covers.Statement.{statement}
 use Rattle.ledger.proofs.covers.Tie as tie
 

@@ -5,8 +5,8 @@ use native.Mathlib.Nat.{add-assoc}
 use native.Mathlib.Omega.{arith}
 use borrow.Author.Needs.{needs}
 use borrow.Author.Tests.{lt-leb}
+use Rattle.config.proofs.Facts.{leb-left}
 use Rattle.ledger.specs.Ledger.{balances, paidOut, owed, covered}
-use Rattle.ledger.proofs.Sums.{leb-left}
 use Rattle.ledger.proofs.Ledger.covered.Statement.{statement}
 use Rattle.ledger.proofs.Ledger.covered.Tie as tie
 

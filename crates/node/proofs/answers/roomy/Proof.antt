@@ -7,6 +7,9 @@ use Rattle.node.specs.State.{roomy}
 use Rattle.node.proofs.Checks.{leb-behind}
 use Rattle.node.proofs.answers.roomy.Statement.{statement}
 use Rattle.node.proofs.answers.roomy.Tie as tie
+use Rattle.config.proofs.Facts.{leb-left}
+use Rattle.node.proofs.roomy.Statement.{statement}
+use Rattle.node.proofs.roomy.Tie as tie
 
 returns : tie.Need-returns
 unfolding roomy
@@ -16,7 +19,7 @@ returns c =
 
 returns-2 : tie.Need-returns-2
 unfolding roomy
-returns-2 c = rw (leb-behind outboxSize (c .before .args .at) (c .before .args .outbox) (c .if1 .left))
+returns-2 c = rw (← leb-left (c .before .args .at) outboxSize (c .before .args .outbox) (c .if1 .left))
 
 pub roomy-spec : {M : Type 1} → statement M
 roomy-spec = tie.close (tie.spec returns returns-2)
