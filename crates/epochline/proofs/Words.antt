@@ -2,7 +2,7 @@
 use mathlib.Core.Bool.{Bool, true, false, cond, _&&_}
 use mathlib.Core.List.{List}
 use mathlib.Core.Path.{_≡_, refl, sym, ap, _∙_}
-use Prim.Native.Nat.{ℕ, suc, _+_, _-_, _≤_, _<_}
+use Prim.Native.Nat.{ℕ, suc, _+_, _≤_, _<_}
 use native.Mathlib.Numerals.{add-one}
 use native.Mathlib.Omega.{arith}
 use borrow.Author.Tests.{eqb-true, ne-eqb}
@@ -30,10 +30,6 @@ space-next s i h e p = p ∙ rw (drop-cons s i 0 h, ne-eqb (getD s i 0) 32 e, ad
 pub space-none : (s : List ℕ) (i : ℕ) → length s ≤ i → spaceIn s ≡ i + spaceIn (drop i s) → i ≡ spaceIn s
 unfolding spaceIn
 space-none s i h p = sym (p ∙ rw (drop-of-length-le s {i = i} h) (omega arith))
-
--- a part that goes on to the end
-pub drop-to-end : (s : List ℕ) (i : ℕ) → take (length s - i) (drop i s) ≡ drop i s
-drop-to-end s i = take-all (length s - i) (drop i s) (rw length-drop (omega arith))
 
 -- where there is no space, nothing stands behind it
 pub behind-none : (s : List ℕ) (i : ℕ) → length s ≤ i → i ≡ spaceIn s → drop i s ≡ behind s

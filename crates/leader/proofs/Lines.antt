@@ -2,12 +2,11 @@
 use mathlib.Core.Bool.{true, false, _&&_, and-false}
 use mathlib.Core.List.{List, [], _∷_, _++_}
 use mathlib.Core.Path.{_≡_, refl, sym, ap, _∙_}
-use Prim.Native.Nat.{ℕ, suc, _+_, _-_, _≤_, _<_}
-use native.Mathlib.Nat.{le-refl}
+use Prim.Native.Nat.{ℕ, suc, _+_, _≤_, _<_}
 use native.Mathlib.Numerals.{add-one}
 use native.Mathlib.Omega.{arith}
 use lib.IntN.{ℤ}
-use lib.ListN.{length, getD, set, take, drop, length-append, length-take, length-drop, length-map, List·getD-map, drop-of-length-le}
+use lib.ListN.{length, getD, set, take, drop, length-append, length-take, length-map, List·getD-map, drop-of-length-le}
 use lib.Seq.{length-take-le, take-all, take-take, take-suc-set, drop-cons}
 use Rattle.quorum.specs.Sort.{sort}
 use Rattle.quorum.proofs.Sort.{length-perm, sort-same}
@@ -82,8 +81,3 @@ module _ (own : List ℕ) (values : List ℤ) where
     same-end i h =
         let ys = observations own values in
         rw (drop-of-length-le xs {i = i} (omega arith), drop-of-length-le ys {i = i} (rw length-own h))
-
--- ---- what is lent from a place on
-
-pub rest-from : (l : List ℕ) (n : ℕ) → take (length l - n) (drop n l) ≡ drop n l
-rest-from l n = take-all (length l - n) (drop n l) (rw length-drop (le-refl _))

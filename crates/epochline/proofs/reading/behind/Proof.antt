@@ -6,16 +6,19 @@ use denote.Ref.{now}
 use Rattle.epochline.proofs.Words.{drop-to-end, behind-none}
 use Rattle.epochline.proofs.reading.behind.Statement.{statement}
 use Rattle.epochline.proofs.reading.behind.Tie as tie
+use Rattle.wire.proofs.Overlay.{rest-from}
+use Rattle.epochline.proofs.behind.Statement.{statement}
+use Rattle.epochline.proofs.behind.Tie as tie
 
 returns : tie.Need-returns
 returns c =
     let s = now (c .before .before .before .before .args .s) in
-    drop-to-end s _ ∙ rw (add-one, c .before .before .space-in .ensures .0)
+    rest-from s _ ∙ rw (add-one, c .before .before .space-in .ensures .0)
 
 returns-2 : tie.Need-returns-2
 returns-2 c =
     let s = now (c .before .before .before .before .args .s) in
-    drop-to-end s _ ∙ behind-none s _ (c .before .if1 .left) (c .before .before .space-in .ensures .0)
+    rest-from s _ ∙ behind-none s _ (c .before .if1 .left) (c .before .before .space-in .ensures .0)
 
 pub behind-spec : {M : Type 1} → statement M
 behind-spec =
