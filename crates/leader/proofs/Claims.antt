@@ -16,13 +16,14 @@ use Rattle.quorum.specs.First.{firstAt, allSet}
 use Rattle.quorum.specs.Marks.{flags}
 use Rattle.quorum.specs.Sort.{keep, swap, then, Head, Sorted}
 use Rattle.quorum.proofs.Sort.{sort-sorted}
-use Rattle.frame.specs.Message.{Observation, Signed, Signer}
+use Rattle.frame.specs.Message.{Observation, Signed}
 use Rattle.report.specs.Faults.{firstFault}
 use Rattle.report.specs.Stands.{valuesOf, listFault, bitsFault, attestedFault, signersFault}
 use Rattle.report.specs.declared.Fault.the-variants as fault
 use Rattle.report.specs.Claims.{byValue}
 use Rattle.report.proofs.Stands.{sorted-not-falling, nothing-list-fault, nothing-bits-fault, nothing-signers-fault, nothing-attested-fault}
-use Rattle.outbox.specs.Written.{ownFrame, signatureOf, observed, observations, signedObservations, signersOf}
+use Rattle.outbox.specs.Written.{ownFrame, observed, observations, signedObservations, signersOf}
+use Rattle.outbox.proofs.Frames.{signer}
 use Rattle.leader.specs.declared.Leader.{Leader}
 use Rattle.leader.specs.State.{collecting, inGrace, goodLeader, emptyRound}
 use Rattle.leader.specs.Listed.{notAfter, markedUpTo, order, listOf, requestOf, lowestSigners}
@@ -84,15 +85,12 @@ request-passes n f epoch round bits s signatures xs h many e verified =
 
 -- ---- who signs it
 
-abbrev signing : List ℕ → ℕ → Signer
-signing signatures j = record { member = j; signature = signatureOf signatures j }
-
 signers-pass : (n f bits : ℕ) (s : Leader) (signatures : List ℕ) → n ≤ length (s .reported) → f < reportedBy n s → allSet bits (f + 1) ≡ true → signersFault f bits (signersOf (lowestSigners n f s) signatures) ≡ fault.Nothing
 signers-pass n f bits s signatures h many verified =
     let l = lowestSigners n f s in
-    let long : length (signersOf l signatures) ≡ f + 1 = length-map l (signing signatures) ∙ length-take-le (f + 1) (markedUpTo n (s .reported)) (omega (arith, length-marked n (s .reported) h)) in
+    let long : length (signersOf l signatures) ≡ f + 1 = length-map l (signer signatures) ∙ length-take-le (f + 1) (markedUpTo n (s .reported)) (omega (arith, length-marked n (s .reported) h)) in
     nothing-signers-fault f bits (signersOf l signatures) (omega arith)
-    (rw (members-of-made (signing signatures) (λ x. x .member) (λ j. refl) l) (lowest-distinct n (f + 1) (s .reported)))
+    (rw (members-of-made (signer signatures) (λ x. x .member) (λ j. refl) l) (lowest-distinct n (f + 1) (s .reported)))
     (rw long verified)
 
 pub final-passes : FinalPasses
