@@ -6,14 +6,14 @@ use Prim.Native.Nat.{ℕ, zero, suc, _+_, _-_, _*_, _/_, _%_, _^_, _≤_, _<_}
 use native.Mathlib.Numerals.{add-one}
 use native.Mathlib.Nat.{pow-suc, pow-succ', div-div-eq-div-mul}
 use native.Mathlib.Omega.{arith}
-use borrow.Author.Tests.{ltb-true, ltb-false, leb-true, le-leb, lt-leb, ne-eqb, not-true}
+use borrow.Author.Tests.{ltb-true, ltb-false, leb-true, le-leb, ne-eqb, not-true}
 use lib.Dec.{leb, ltb, eqb}
 use lib.ListN.{length, getD, drop, set, length-append, List·getD-append}
 use lib.Seq.{drop-cons, getD-at}
 use Rattle.wire.specs.Overlay.{over}
 use Rattle.wire.proofs.Overlay.{set-over}
 use Rattle.config.proofs.Facts.{and-true}
-use Rattle.quorum.proofs.Cases.{either}
+use Rattle.quorum.proofs.Cases.{either, leb-not-ltb}
 use Rattle.epochline.specs.Decimal.{decimalFrom, decimal, allDigits, valueFrom, valueOf, isNumber}
 
 -- ---- written
@@ -189,13 +189,6 @@ number-facts places limit l e =
     let (r, digits) = and-true (leb 1 (length l) && leb (length l) places) (allDigits l) q in
     record { most = leb-true _ _ (and-true (leb 1 (length l)) (leb (length l) places) r .1); digits = digits; within = leb-true _ _ value }
 
-leb-ltb : (a b : ℕ) → leb a b ≡ not (ltb b a)
-leb-ltb a b = go (ltb b a) refl
-  where
-    go : (t : Bool) → ltb b a ≡ t → leb a b ≡ not t
-    go true e = lt-leb a b (ltb-true b a e)
-    go false e = le-leb a b (ltb-false b a e)
-
 neither : (a b : Bool) → not a && not b ≡ not (a || b)
 neither true b = refl
 neither false b = refl
@@ -203,7 +196,7 @@ neither false b = refl
 -- the test of the length comes first
 pub number-sized : (places limit : ℕ) (l : List ℕ) (b : Bool) → (ltb (length l) 1 || ltb places (length l)) ≡ b → isNumber places limit l ≡ not b && allDigits l && (eqb (length l) 1 || not (eqb (getD l 0 0) 48)) && leb (valueOf l) limit
 unfolding isNumber
-number-sized places limit l b e = rw (leb-ltb 1 (length l), leb-ltb (length l) places, neither (ltb (length l) 1) (ltb places (length l)), e)
+number-sized places limit l b e = rw (leb-not-ltb 1 (length l), leb-not-ltb (length l) places, neither (ltb (length l) 1) (ltb places (length l)), e)
 
 pub sized : (n places : ℕ) → (ltb n 1 || ltb places n) ≡ false → (1 ≤ n) × (n ≤ places)
 sized n places e =

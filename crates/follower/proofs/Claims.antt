@@ -4,10 +4,8 @@ use mathlib.Core.Bool.{Bool, true, false, cond, false≢true}
 use mathlib.Core.List.{List, [], _∷_, map}
 use Prim.Native.Nat.{ℕ, _-_}
 use native.Mathlib.Omega.{arith}
-use lib.Dec.{eqb}
 use lib.IntN.{pos}
 use lib.ListN.{length, take}
-use lib.Seq.{length-take-le, getD-take, take-set-lt, getD-set-same}
 use Rattle.config.specs.Bounds.{configOf}
 use Rattle.config.specs.Codes.{numberOf}
 use Rattle.config.specs.declared.Config.{Config}
@@ -16,7 +14,7 @@ use Rattle.price.specs.Median.{medianOf}
 use Rattle.price.specs.Due.{shouldReport}
 use Rattle.quorum.specs.Marks.{flags, marked, countMarks}
 use Rattle.quorum.specs.First.{firstAt}
-use Rattle.quorum.proofs.Marks.{marks-once, mark-stays}
+use Rattle.quorum.proofs.Marks.{mark-there, mark-stays, marks-more}
 use Rattle.frame.specs.Encode.{attestedBytes}
 use Rattle.frame.specs.Message.{Signed, Signer, Attested, Message, newEpoch, observeReq, observe, reportReq, report, final, finalEcho, blank}
 use Rattle.report.specs.declared.Fault.the-variants as fault
@@ -85,12 +83,9 @@ echo-counts-once c s epoch leader j bits time commit a low high long t =
     let new = taken-unmarked s (c .f) epoch leader j bits a t in
     let after = echoed-marks c s j in
     record {
-      one =
-          ap (λ (l : List ℕ). countMarks (take n l)) after
-          ∙ ap countMarks (take-set-lt n (s .marks) place 1 (omega arith))
-          ∙ marks-once (take n (s .marks)) place (omega (arith, length-take-le n (s .marks) long)) (ap (λ (v : ℕ). eqb v 1) (getD-take n (s .marks) place 0 (omega arith)) ∙ new);
+      one = ap (λ (l : List ℕ). countMarks (take n l)) after ∙ marks-more n j (s .marks) low high long new;
       never-again = λ epoch leader bits b again.
-          let old = ap (λ (l : List ℕ). marked l place) after ∙ ap (λ (v : ℕ). eqb v 1) (getD-set-same (s .marks) place 1 0 (omega arith)) in
+          let old = ap (λ (l : List ℕ). marked l place) after ∙ mark-there (s .marks) place (omega arith) in
           false≢true (sym (taken-unmarked (echoed c s j .follower) (c .f) epoch leader j bits b again) ∙ old);
     }
 

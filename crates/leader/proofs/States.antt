@@ -7,16 +7,15 @@ use native.Mathlib.Nat.{le-refl}
 use native.Mathlib.Omega.{arith}
 use borrow.Author.Needs.{needs}
 use borrow.Author.Tests.{leb-true, le-leb}
-use lib.Dec.{eqb, leb}
+use lib.Dec.{leb}
 use lib.IntN.{ℤ}
-use lib.ListN.{length, take, replicate, length-set, length-replicate}
+use lib.ListN.{length, length-set, length-replicate}
 use Rattle.config.specs.Limits.{members}
 use Rattle.config.specs.declared.Config.{Config}
 use Rattle.config.proofs.Facts.{and-five}
-use Rattle.quorum.specs.Marks.{flags, countMarks}
+use Rattle.quorum.specs.Marks.{flags}
 use Rattle.quorum.proofs.Cases.{cases, split}
-use Rattle.quorum.proofs.Counts.{count-split}
-use Rattle.quorum.proofs.Marks.{marks-none, flags-mark, flags-none}
+use Rattle.quorum.proofs.Marks.{marks-more, marks-none, flags-mark, flags-none}
 use Rattle.frame.specs.Message.{observe}
 use Rattle.leader.specs.declared.Leader.{Leader}
 use Rattle.leader.specs.State.{collecting, finished, goodLeader}
@@ -26,7 +25,6 @@ use Rattle.leader.specs.Runs.{Next, by-round, by-observe, by-grace, by-r
 use Rattle.leader.specs.Claims.{Counted}
 use Rattle.leader.proofs.Cases.{round-cases, observing-cases, reporting-cases}
 use Rattle.leader.proofs.Taken.{taken-observe, taken-report, fired-grace}
-use Rattle.leader.proofs.Tables.{observe-count}
 
 -- ---- in range
 
@@ -63,9 +61,6 @@ next-in-range c s t (by-report epoch j xs g low high e) r =
 
 -- ---- how many have observed
 
-none-count : (n m : ℕ) → countMarks (take n (replicate m 0)) ≡ 0
-none-count n m = omega (arith, count-split (λ x. eqb x 1) n (replicate m 0), marks-none m)
-
 -- what every rule keeps: the count fits the phase, and the table has a place for each member
 pub record Tallied (c : Config) (s : Leader) : Type 0 where
   pub counted : Counted c s
@@ -73,12 +68,12 @@ pub record Tallied (c : Config) (s : Leader) : Type 0 where
 
 -- an OBSERVE that is taken is one more
 pub observe-more : (c : Config) (s : Leader) (epoch j : ℕ) (v : ℤ) (g : List ℕ) → c .n ≤ members → length (s .observed) ≡ members → 1 ≤ j → j ≤ c .n → takes s true epoch j (observe epoch (s .round) v g) ≡ true → observedBy (c .n) (withObservation s j v) ≡ suc (observedBy (c .n) s)
-observe-more c s epoch j v g small long low high e = observe-count (c .n) j (s .observed) low high (omega arith) (taken-observe s true epoch j epoch (s .round) v g e .new)
+observe-more c s epoch j v g small long low high e = marks-more (c .n) j (s .observed) low high (omega arith) (taken-observe s true epoch j epoch (s .round) v g e .new)
 
 next-tallied : (c : Config) (s t : Leader) → c .n ≤ members → Next c s t → Tallied c s → Tallied c t
 unfolding closing
 next-tallied c s t small by-round k =
-    let none = none-count (c .n) members in
+    let none = marks-none (c .n) members in
     let long = length-replicate {A = ℕ} members 0 in
     round-cases (λ l. Tallied c (l .leader)) c s (record { counted = omega arith; long = long }) (record { counted = omega arith; long = long })
 next-tallied c s t small (by-observe epoch j v g low high e) k =

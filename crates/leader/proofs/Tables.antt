@@ -8,17 +8,17 @@ use borrow.Author.Tests.{eqb-false}
 use lib.Dec.{eqb}
 use lib.IntN.{ℤ}
 use lib.ListN.{length, set, take, length-set}
-use lib.Seq.{set-comm, getD-take, getD-set-other, take-set-lt, length-take-le}
+use lib.Seq.{set-comm, getD-set-other}
 use Rattle.config.specs.Limits.{signatureSize}
 use Rattle.config.specs.declared.Config.{Config}
 use Rattle.wire.specs.Overlay.{over}
 use Rattle.wire.proofs.Overlay.{set-over}
 use Rattle.quorum.specs.First.{among, distinct}
-use Rattle.quorum.specs.Marks.{marked, mark, countMarks}
+use Rattle.quorum.specs.Marks.{mark, countMarks}
 use Rattle.quorum.specs.Sort.{Perm, done, keep, swap, then}
 use Rattle.quorum.proofs.Cases.{cases, split}
 use Rattle.quorum.proofs.First.{distinct-cons, distinct-apart}
-use Rattle.quorum.proofs.Marks.{marks-once}
+use Rattle.quorum.proofs.Marks.{marks-more}
 use Rattle.quorum.proofs.Sort.{perm-map, length-perm}
 use Rattle.quorum.proofs.Perms.{distinct-perm}
 use Rattle.frame.proofs.Framed.{or-false}
@@ -139,17 +139,11 @@ fresh-perm n s r f =
     none-perm swap (a, (b, h)) = (b, (a, h))
     none-perm (then r q) h = none-perm q (none-perm r h)
 
--- one more, of the n members, at a first mark
-pub observe-count : (n j : ℕ) (marks : List ℕ) → 1 ≤ j → j ≤ n → n ≤ length marks → marked marks (j - 1) ≡ false → countMarks (take n (mark marks (j - 1))) ≡ suc (countMarks (take n marks))
-observe-count n j marks low high h e =
-    let k : j - 1 < n = omega arith in
-    rw (take-set-lt n marks (j - 1) 1 k) (marks-once (take n marks) (j - 1) (rw (length-take-le n marks h) k) (rw (getD-take n marks (j - 1) 0 k) e))
-
 module _ (c : Config) where
-  abbrev next : Leader → Observed → Leader
+  abbrev pub next : Leader → Observed → Leader
   next s o = observing c s (o .from) (o .value) .leader
 
-  next-observed : (s : Leader) (o : Observed) → next s o .observed ≡ mark (s .observed) (o .from - 1)
+  pub next-observed : (s : Leader) (o : Observed) → next s o .observed ≡ mark (s .observed) (o .from - 1)
   next-observed s o = observing-else (λ t. t .observed) (λ t. refl) c s (o .from) (o .value)
 
   fresh-next : (s : Leader) (o : Observed) (os : List Observed) → Fresh (c .n) s (o ∷ os) → Fresh (c .n) (next s o) os
@@ -164,7 +158,7 @@ module _ (c : Config) where
       }
 
   fresh-count : (s : Leader) (o : Observed) (os : List Observed) → Fresh (c .n) s (o ∷ os) → observedBy (c .n) (withObservation s (o .from) (o .value)) ≡ suc (observedBy (c .n) s)
-  fresh-count s o os f = observe-count (c .n) (o .from) (s .observed) (f .from .0) (f .from .1) (f .long) (f .none .0)
+  fresh-count s o os f = marks-more (c .n) (o .from) (s .observed) (f .from .0) (f .from .1) (f .long) (f .none .0)
 
   next-count : (s : Leader) (o : Observed) (os : List Observed) → Fresh (c .n) s (o ∷ os) → observedBy (c .n) (next s o) ≡ suc (observedBy (c .n) s)
   next-count s o os f = ap (λ (l : List ℕ). countMarks (take (c .n) l)) (next-observed s o) ∙ fresh-count s o os f

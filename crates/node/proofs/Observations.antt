@@ -9,7 +9,6 @@ use borrow.Author.Tests.{not-true}
 use lib.Dec.{eqb}
 use lib.IntN.{ℤ}
 use lib.ListN.{length, getD, length-set}
-use lib.Seq.{getD-set-same}
 use Rattle.config.specs.Limits.{members, signatureSize}
 use Rattle.config.specs.declared.Answer.the-variants as answer
 use Rattle.config.specs.declared.Config.{Config}
@@ -17,8 +16,8 @@ use Rattle.config.proofs.Facts.{and-true, good-facts}
 use Rattle.quorum.specs.First.{firstAt, distinct}
 use Rattle.quorum.specs.Marks.{marked, mark}
 use Rattle.quorum.proofs.Cases.{test-false}
-use Rattle.quorum.proofs.First.{distinct-apart, apart-distinct}
-use Rattle.quorum.proofs.Marks.{mark-stays}
+use Rattle.quorum.proofs.First.{cons-distinct}
+use Rattle.quorum.proofs.Marks.{mark-there, mark-stays}
 use Rattle.frame.specs.Message.{Message, observe}
 use Rattle.frame.specs.Decode.{epochIn, roundIn, valueIn, observeSignature, kindIn, bodyIn, messageOf, messageIn}
 use Rattle.frame.specs.Check.{bodyAnswer}
@@ -32,7 +31,7 @@ use Rattle.leader.specs.State.{collecting, inGrace}
 use Rattle.leader.specs.Takes as leader
 use Rattle.leader.specs.Rules.{observing, observeSigned}
 use Rattle.leader.specs.Runs.{Observed, FromMembers, NoneObserved, fromOf, observeAll, signAll}
-use Rattle.leader.proofs.Cases.{observing-cases}
+use Rattle.leader.proofs.Tables.{next-observed}
 use Rattle.node.specs.State.{withLeader, epochOf, leads}
 use Rattle.node.specs.Event.{Whole, whole, Delivery, delivers, Effect}
 use Rattle.node.specs.Effects.{leading, delivering}
@@ -120,7 +119,7 @@ module _ (n j : ℕ) (marks : List ℕ) (low : 1 ≤ j) (high : j ≤ length mar
 
   unmarked-other : (k : ℕ) → marked (mark marks (j - 1)) (k - 1) ≡ false → j ≡ k → ⊥
   unmarked-other k h e =
-      false≢true (sym h ∙ ap (λ (i : ℕ). marked (mark marks (j - 1)) (i - 1)) (sym e) ∙ ap (λ (x : ℕ). eqb x 1) (getD-set-same marks (j - 1) 1 0 (omega arith)))
+      false≢true (sym h ∙ ap (λ (i : ℕ). marked (mark marks (j - 1)) (i - 1)) (sym e) ∙ mark-there marks (j - 1) (omega arith))
 
   module _ (s t : Leader) (same : s .observed ≡ marks) (next : t .observed ≡ mark marks (j - 1)) where
     none-before : (os : List Observed) → NoneObserved t os → NoneObserved s os
@@ -132,21 +131,10 @@ module _ (n j : ℕ) (marks : List ℕ) (low : 1 ≤ j) (high : j ≤ length mar
     none-other (o ∷ os) (h, rest) zero l e = unmarked-other (o .from) (rw next at h) e
     none-other (o ∷ os) (h, rest) (suc i) l e = none-other os rest i (omega arith) e
 
-cons-distinct : (a : ℕ) (l : List ℕ) → ((i : ℕ) → i < length l → a ≡ getD l i 0 → ⊥) → distinct l ≡ true → distinct (a ∷ l) ≡ true
-cons-distinct a l other e = apart-distinct (a ∷ l) apart
-  where
-    apart : (i j : ℕ) → i < j → j < length (a ∷ l) → getD (a ∷ l) i 0 ≡ getD (a ∷ l) j 0 → ⊥
-    apart i zero h g q = omega arith
-    apart zero (suc j) h g q = other j (omega arith) q
-    apart (suc i) (suc j) h g q = distinct-apart l e i j (omega arith) (omega arith) q
-
-observing-marks : (c : Config) (s : Leader) (o : Observed) → observing c s (o .from) (o .value) .leader .observed ≡ mark (s .observed) (o .from - 1)
-observing-marks c s o = observing-cases (λ l. l .leader .observed ≡ mark (s .observed) (o .from - 1)) c s (o .from) (o .value) (λ e. refl) (λ e. refl)
-
 fresh-more : (w : Whole) (o : Observed) (os : List Observed) → length (w .node .leader .observed) ≡ members → New w o → Fresh (w .node .config) (seen w o .node .leader) os → Fresh (w .node .config) (w .node .leader) (o ∷ os)
 fresh-more w o os long new f =
     let s = w .node .leader in
-    let next = observing-marks (w .node .config) s o in
+    let next = next-observed (w .node .config) s o in
     let high : o .from ≤ length (s .observed) = omega arith in
     record {
       from = (new .least, new .most, new .long, f .from);
@@ -160,7 +148,7 @@ all-fresh w [] long h = record { from = tt; none = tt; apart = refl }
 all-fresh w (d ∷ ds) long (kind, h, rest) =
     let o = observedIn d in
     let same = observed-seen w d kind h in
-    let marks = observing-marks (w .node .config) (w .node .leader) o in
+    let marks = next-observed (w .node .config) (w .node .leader) o in
     let long′ : length (seen w o .node .leader .observed) ≡ members = ap length marks ∙ length-set (w .node .leader .observed) _ _ ∙ long in
     let f = all-fresh (after w (delivers d)) ds (subst (λ (v : Whole). length (v .node .leader .observed) ≡ members) (sym same) long′) rest in
     fresh-more w o (observations ds) long (observed-new w d kind h) (subst (λ (v : Whole). Fresh (v .node .config) (v .node .leader) (observations ds)) same f)

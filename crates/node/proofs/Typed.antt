@@ -1,13 +1,13 @@
 -- Numbers stay what their types hold, whatever a step does: bytes stay bytes, tables as long as they are, epochs, rounds and values in their widths.
 use mathlib.Core.Path.{_≡_, refl, ap, _∙_}
 use mathlib.Core.Bool.{true, false}
-use mathlib.Core.List.{List, [], _∷_}
-use Prim.Native.Nat.{ℕ, zero, suc, _+_, _-_, _*_, _^_, _≤_, _<_, zero-le}
+use mathlib.Core.List.{List}
+use Prim.Native.Nat.{ℕ, _+_, _-_, _*_, _^_, _≤_, _<_, zero-le}
 use native.Mathlib.Omega.{arith}
 use borrow.Author.Tests.{ltb-false}
 use lib.Dec.{lit<}
 use lib.IntN.{ℤ, pos}
-use lib.ListN.{length, getD, set, replicate, length-set}
+use lib.ListN.{length, getD, replicate, length-set}
 use mir.Syntax.{w64}
 use mir.Val.{SFits}
 use Rattle.config.specs.Limits.{members, lastEpoch, lastRound, signatureSize, reportSignatures, signaturesSize, keptSize}
@@ -17,6 +17,7 @@ use Rattle.config.specs.declared.Saved.{Saved}
 use Rattle.wire.specs.Numbers.{Bytes}
 use Rattle.wire.proofs.Numbers.{bytes-append, bytes-replicate, bytes-over}
 use Rattle.quorum.proofs.Cases.{either}
+use Rattle.quorum.proofs.Each.{each-replicate, each-set}
 use Rattle.frame.specs.Message.{Message, newEpoch, observeReq, observe, reportReq, report, final, finalEcho}
 use Rattle.frame.specs.Encode.{attestedBytes, bodyBytes}
 use Rattle.frame.specs.Range.{goodMessage}
@@ -90,21 +91,9 @@ typed-node n number p f l =
 zero-fits : SFits w64 (pos 0)
 zero-fits = record { sfits = lit< tt }
 
-fits-replicate : (m k : ℕ) → SFits w64 (getD (replicate m (pos 0)) k (pos 0))
-fits-replicate zero k = zero-fits
-fits-replicate (suc m) zero = zero-fits
-fits-replicate (suc m) (suc k) = fits-replicate m k
-
-fits-set : (l : List ℤ) (i : ℕ) (v : ℤ) → SFits w64 v → ((k : ℕ) → SFits w64 (getD l k (pos 0))) → (k : ℕ) → SFits w64 (getD (set l i v) k (pos 0))
-fits-set [] i v f h k = h k
-fits-set (x ∷ l) zero v f h zero = f
-fits-set (x ∷ l) zero v f h (suc k) = h (suc k)
-fits-set (x ∷ l) (suc i) v f h zero = h zero
-fits-set (x ∷ l) (suc i) v f h (suc k) = fits-set l i v f (λ j. h (suc j)) k
-
 typed-round : (phase round «t_round» : ℕ) → round ≤ lastRound → TypedLeader (emptyRound phase round «t_round»)
 typed-round phase round «t_round» h =
-    record { round = h; values = refl; value = fits-replicate members; observed = refl; reported = refl }
+    record { round = h; values = refl; value = each-replicate (SFits w64) (pos 0) members zero-fits; observed = refl; reported = refl }
 
 -- a NEWEPOCH changes one place of what was heard
 heard-length : (n f : ℕ) (p : Pace) (j x : ℕ) → length (pacemaker.newEpochOf n f p j x .pace .heard) ≡ length (p .heard)
@@ -220,7 +209,7 @@ module _ (w : Whole) (t : TypedWhole w) where
   typed-observing j v f =
       let s = n .leader in
       let values = length-set (s .values) (j - 1) v ∙ t .node .values in
-      let value = fits-set (s .values) (j - 1) v f (t .node .value) in
+      let value = each-set (SFits w64) (pos 0) (s .values) (j - 1) v f (t .node .value) in
       let observed = length-set (s .observed) (j - 1) 1 ∙ t .node .observed in
       observing-cases (λ l. TypedLeader (l .leader)) c s j v
       (λ h. record { round = t .node .leader-round; values = values; value = value; observed = observed; reported = t .node .reported })

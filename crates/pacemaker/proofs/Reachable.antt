@@ -2,14 +2,15 @@
 use mathlib.Core.Path.{_≡_, _∙_}
 use mathlib.Core.Bool.{true}
 use mathlib.Core.List.{List, [], _∷_}
-use Prim.Native.Nat.{ℕ, zero, suc, _-_, _*_, _≤_, zero-le}
+use Prim.Native.Nat.{ℕ, suc, _-_, _*_, _≤_, zero-le}
 use native.Mathlib.Omega.{arith}
 use borrow.Author.Tests.{leb-true, le-leb}
 use lib.Dec.{leb}
-use lib.ListN.{length, take, getD, set, replicate, length-set, length-replicate}
+use lib.ListN.{length, take, getD, replicate, length-set, length-replicate}
 use Rattle.config.specs.Limits.{members}
 use Rattle.config.proofs.Facts.{and-five}
 use Rattle.quorum.specs.Counts.{best, reached}
+use Rattle.quorum.proofs.Each.{each-replicate, each-take, each-set}
 use Rattle.quorum.proofs.Counts.{candidate-le, reached-none}
 use Rattle.pacemaker.specs.declared.Pace.{Pace}
 use Rattle.pacemaker.specs.State.{goodPace}
@@ -45,25 +46,10 @@ abbrev pub AtMost : ℕ → List ℕ → Type 0
 AtMost b l = (k : ℕ) → getD l k 0 ≤ b
 
 pub at-most-zeros : (b m : ℕ) → AtMost b (replicate m 0)
-at-most-zeros b zero k = zero-le
-at-most-zeros b (suc m) zero = zero-le
-at-most-zeros b (suc m) (suc k) = at-most-zeros b m k
-
-at-most-take : (b n : ℕ) (l : List ℕ) → AtMost b l → AtMost b (take n l)
-at-most-take b zero l h k = zero-le
-at-most-take b (suc n) [] h k = zero-le
-at-most-take b (suc n) (a ∷ l) h zero = h 0
-at-most-take b (suc n) (a ∷ l) h (suc k) = at-most-take b n l (λ i. h (suc i)) k
-
-at-most-set : (b : ℕ) (l : List ℕ) (i x : ℕ) → x ≤ b → AtMost b l → AtMost b (set l i x)
-at-most-set b [] i x g h k = h k
-at-most-set b (a ∷ l) zero x g h zero = g
-at-most-set b (a ∷ l) zero x g h (suc k) = h (suc k)
-at-most-set b (a ∷ l) (suc i) x g h zero = h 0
-at-most-set b (a ∷ l) (suc i) x g h (suc k) = at-most-set b l i x g (λ j. h (suc j)) k
+at-most-zeros b m = each-replicate (λ x. x ≤ b) 0 m zero-le
 
 pub at-most-hear : (b : ℕ) (l : List ℕ) (j x : ℕ) → x ≤ b → AtMost b l → AtMost b (hear l j x)
-at-most-hear b l j x g h = at-most-set b l (j - 1) _ (omega (arith, h (j - 1))) h
+at-most-hear b l j x g h = each-set (λ x. x ≤ b) 0 l (j - 1) _ (omega (arith, h (j - 1))) h
 
 best-at-most : (b k : ℕ) (l cs : List ℕ) → AtMost b cs → best k l cs ≤ b
 best-at-most b k l [] h = zero-le
@@ -71,7 +57,7 @@ best-at-most b k l (c ∷ cs) h = omega (arith, candidate-le k l c, h 0, best-at
 
 -- what is reached is one of the entries, so it is at most b too
 pub reached-at-most : (b k n : ℕ) (l : List ℕ) → AtMost b l → reached k (take n l) ≤ b
-reached-at-most b k n l h = best-at-most b k (take n l) (take n l) (at-most-take b n l h)
+reached-at-most b k n l h = best-at-most b k (take n l) (take n l) (each-take (λ x. x ≤ b) 0 n l zero-le h)
 
 -- ---- in range
 

@@ -1,15 +1,16 @@
 -- Laws of values: their order, lists that do not fall, and the median.
-use mathlib.Core.Bool.{Bool, true, false, not, _&&_, false≢true}
+use mathlib.Core.Bool.{true, not, _&&_, false≢true}
 use mathlib.Core.List.{List, [], _∷_}
 use mathlib.Core.Path.{_≡_, refl, sym, ap, _∙_}
 use Prim.Native.Nat.{ℕ, zero, suc, _-_, _/_, _≤_, _<_}
 use native.Mathlib.Omega.{arith}
-use borrow.Author.Tests.{leb-true, leb-false, le-leb, le-ltb, lt-ltb}
-use lib.Dec.{leb, ltb}
+use borrow.Author.Tests.{leb-true, le-leb}
+use lib.Dec.{leb}
 use lib.IntN.{ℤ, pos, negsuc}
 use lib.ListN.{length, getD, drop, length-map, List·getD-map}
 use lib.Signed.{ltZ, leZ}
 use Rattle.price.specs.Median.{medianPlace, medianOf}
+use Rattle.quorum.proofs.Cases.{leb-not-ltb}
 use Rattle.frame.specs.Message.{Observation, noObservation}
 use Rattle.report.specs.Stands.{valuesOf, notFalling}
 
@@ -30,13 +31,6 @@ leZ-trans (negsuc a) (pos b) (pos c) e g = refl
 leZ-trans (negsuc a) (pos b) (negsuc c) e g = absurd (false≢true g)
 leZ-trans (negsuc a) (negsuc b) (pos c) e g = refl
 leZ-trans (negsuc a) (negsuc b) (negsuc c) e g = leb-trans c b a g e
-
-leb-not-ltb : (a b : ℕ) → leb a b ≡ not (ltb b a)
-leb-not-ltb a b = go (leb a b) refl
-  where
-    go : (t : Bool) → leb a b ≡ t → t ≡ not (ltb b a)
-    go true e = rw (le-ltb b a (leb-true a b e))
-    go false e = rw (lt-ltb b a (leb-false a b e))
 
 -- one value is not above another exactly if the other is not below it
 pub le-not-lt : (v w : ℤ) → leZ v w ≡ not (ltZ w v)
