@@ -4,10 +4,10 @@ use mathlib.Core.List.{[]}
 use contract.Running.{givenOf}
 use Rattle.host.proofs.Exported.{also, proved}
 use Rattle.host.proofs.Answers.{contract-answer}
-use Rattle.host.proofs.fresh_contract as g
+use Rattle.host.proofs.contract_calls.fresh_contract as g
 use Rattle.host.proofs.contract_calls.fresh_contract.Symbol as g-symbol
 use Rattle.host.proofs.contract_calls.fresh_contract.Met as g-met
-use Rattle.host.proofs.wederburh_contract_fresh as f
+use Rattle.host.proofs.contract_calls.wederburh_contract_fresh as f
 use Rattle.host.proofs.contract_calls.wederburh_contract_fresh.Key as f-key
 use Rattle.host.proofs.contract_calls.wederburh_contract_fresh.Code as f-code
 use Rattle.host.proofs.contract_calls.wederburh_contract_fresh.Statement.{statement}
@@ -17,7 +17,7 @@ unfolding f-code.routine
 wederburh-contract-fresh-spec 𝓤 H 𝓜 𝓖 𝓡 =
     proved 𝓤 H 𝓜 𝓖 𝓡 (contract-answer 𝓤 H (𝓖 .A) (givenOf 𝓤 H 𝓜 𝓖)) []
     (λ κs a. f.clauses 𝓤 H (𝓖 .A) (𝓜 .mem) (𝓡 .run) κs a .ensures tt) (λ κs a. g.clauses 𝓤 H (𝓖 .A) (𝓜 .mem) (𝓡 .run) κs a .ensures tt) (λ κs a r z. also 𝓤 _ (r .outcome .answer))
-    f-code.env f-key.name f-code.function (f-code.unfolded 𝓤 H 𝓜 𝓡) g-symbol.name g-symbol.routine f-code.calls-host·fresh-contract (g-met.met 𝓤 H 𝓜 𝓖 𝓡)
+    f-code.env f-key.name f-code.function (f-code.unfolded 𝓤 H 𝓜 𝓡) g-symbol.name g-symbol.routine f-code.calls-host·contract-calls·fresh-contract (g-met.met 𝓤 H 𝓜 𝓖 𝓡)
     (record {
       body = λ κs a. refl;
       laid = λ κs a bs. record { there = tt; there-too = tt; types = refl; lending = refl; passing = refl; pointing = λ w. refl };

@@ -4,10 +4,10 @@ use mathlib.Core.List.{[]}
 use contract.Running.{givenOf}
 use Rattle.host.proofs.Exported.{also, proved}
 use Rattle.host.proofs.Answers.{sender-answer}
-use Rattle.host.proofs.fresh_sender as g
+use Rattle.host.proofs.sender_calls.fresh_sender as g
 use Rattle.host.proofs.sender_calls.fresh_sender.Symbol as g-symbol
 use Rattle.host.proofs.sender_calls.fresh_sender.Met as g-met
-use Rattle.host.proofs.wederburh_sender_fresh as f
+use Rattle.host.proofs.sender_calls.wederburh_sender_fresh as f
 use Rattle.host.proofs.sender_calls.wederburh_sender_fresh.Key as f-key
 use Rattle.host.proofs.sender_calls.wederburh_sender_fresh.Code as f-code
 use Rattle.host.proofs.sender_calls.wederburh_sender_fresh.Statement.{statement}
@@ -17,7 +17,7 @@ unfolding f-code.routine
 wederburh-sender-fresh-spec 𝓤 H 𝓜 𝓖 𝓡 =
     proved 𝓤 H 𝓜 𝓖 𝓡 (sender-answer 𝓤 H (𝓖 .A) (givenOf 𝓤 H 𝓜 𝓖)) []
     (λ κs a. f.clauses 𝓤 H (𝓖 .A) (𝓜 .mem) (𝓡 .run) κs a .ensures tt) (λ κs a. g.clauses 𝓤 H (𝓖 .A) (𝓜 .mem) (𝓡 .run) κs a .ensures tt) (λ κs a r z. also 𝓤 _ (r .outcome .answer))
-    f-code.env f-key.name f-code.function (f-code.unfolded 𝓤 H 𝓜 𝓡) g-symbol.name g-symbol.routine f-code.calls-host·fresh-sender (g-met.met 𝓤 H 𝓜 𝓖 𝓡)
+    f-code.env f-key.name f-code.function (f-code.unfolded 𝓤 H 𝓜 𝓡) g-symbol.name g-symbol.routine f-code.calls-host·sender-calls·fresh-sender (g-met.met 𝓤 H 𝓜 𝓖 𝓡)
     (record {
       body = λ κs a. refl;
       laid = λ κs a bs. record { there = tt; there-too = tt; types = refl; lending = refl; passing = refl; pointing = λ w. refl };
