@@ -29,9 +29,9 @@ fn read_frame(n: u8, link: u8, number: u64, frame: &[u8]) {
 fn say(kind: u8, body: &[u8])
     requires { ⌜ (1 ≤ kind) × (kind ≤ 7) × (length (now body) ≡ bodyLength kind (countIn (now body)) (signerCountIn (now body))) ⌝ }
 {
-    print(kind as u64);
+    show::number(kind as u64);
     match kind {
-        1 => print(frame::epoch_of(body) as u64),
+        1 => show::number(frame::epoch_of(body) as u64),
         2 => say_head(body),
         3 => say_observe(body),
         4 => say_list(body, frame::stride(4)),
@@ -43,15 +43,15 @@ fn say(kind: u8, body: &[u8])
 fn say_head(body: &[u8])
     requires { ⌜ 5 ≤ length (now body) ⌝ }
 {
-    print(frame::epoch_of(body) as u64);
-    print(frame::round_of(body) as u64);
+    show::number(frame::epoch_of(body) as u64);
+    show::number(frame::round_of(body) as u64);
 }
 
 fn say_observe(body: &[u8])
     requires { ⌜ 13 ≤ length (now body) ⌝ }
 {
     say_head(body);
-    print(wire::to_unsigned(frame::value_of(body)));
+    show::number(wire::to_unsigned(frame::value_of(body)));
 }
 
 // The head, m, and member and value of each observation.
@@ -60,11 +60,11 @@ fn say_list(body: &[u8], stride: usize)
 {
     say_head(body);
     let m = frame::count_of(body);
-    print(m as u64);
+    show::number(m as u64);
     let mut i: usize = 0;
     while i < m {
-        print(frame::member_at(body, stride, i) as u64);
-        print(wire::to_unsigned(frame::value_at(body, stride, i)));
+        show::number(frame::member_at(body, stride, i) as u64);
+        show::number(wire::to_unsigned(frame::value_at(body, stride, i)));
         i += 1;
     }
 }
@@ -75,16 +75,10 @@ fn say_final(body: &[u8])
 {
     say_list(body, frame::stride(6));
     let s = frame::signer_count(body);
-    print(s as u64);
+    show::number(s as u64);
     let mut i: usize = 0;
     while i < s {
-        print(frame::signer_at(body, i) as u64);
+        show::number(frame::signer_at(body, i) as u64);
         i += 1;
     }
-}
-
-// One more number of a line.
-fn print(x: u64) {
-    io::write_all(STDOUT_FILENO, b" ");
-    io::print_decimal(STDOUT_FILENO, x);
 }

@@ -1,9 +1,8 @@
 // Cases that write a frame: the outbox after the writer of the frame's kind has filled it. Nothing is printed for a case that the writer
 // could not take: each `put_..` tests what its writer requires, and answers the length of the frame, or 0 where it wrote none.
 use config::Config;
-use libc::STDOUT_FILENO;
 ghost use mathlib.Core.Path.{_≡_};
-ghost use Prim.Native.Nat.{_+_, _*_, _≤_, min};
+ghost use Prim.Native.Nat.{_+_, _*_, _≤_};
 ghost use lib.ListN.{length};
 ghost use Rattle.frame.specs.Table.{trailerLength};
 ghost use Rattle.frame.specs.Range.{allMembers};
@@ -47,11 +46,11 @@ pub fn write(case: &[u8]) {
     );
     let mut outbox = [BLANK; OUTBOX];
     let n = put(&mut outbox, at, config, case[1], &case[SAID..]);
-    show(&outbox, at, n);
+    show_outbox(&outbox, at, n);
 }
 
 // The outbox up to a few bytes behind the frame of n bytes at a position, where there is one.
-fn show(outbox: &[u8], at: usize, n: usize)
+fn show_outbox(outbox: &[u8], at: usize, n: usize)
     requires { ⌜ at + trailerLength ≤ length (now outbox) ⌝ }
 {
     let left = outbox.len() - at - BEHIND;
@@ -61,25 +60,7 @@ fn show(outbox: &[u8], at: usize, n: usize)
     if left < n {
         return;
     }
-    show_bytes(outbox, at + n + BEHIND);
-}
-
-// The bytes up to a place, eight at a time while there are eight.
-fn show_bytes(bytes: &[u8], end: usize)
-    requires { ⌜ end ≤ length (now bytes) ⌝ }
-{
-    let mut i: usize = 0;
-    while i < end {
-        let width = least(8, end - i);
-        io::print_hex(STDOUT_FILENO, wire::get(bytes, i, width), 2 * width);
-        i += width;
-    }
-}
-
-fn least(a: usize, b: usize) -> usize
-    ensures { λ r. ⌜ r ≡ min a b ⌝ }
-{
-    if a < b { a } else { b }
+    show::hex(outbox, 0, at + n + BEHIND);
 }
 
 // By the kind; nothing where it is none.

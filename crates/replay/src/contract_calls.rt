@@ -88,7 +88,7 @@ fn withdraw(bytes: &mut [u8], said: &[u8]) -> bool
     let withdrawn = contract.withdraw(said[0]);
     let answer = withdrawn.answer;
     lines::begin(b'W', answer);
-    lines::number(withdrawn.amount);
+    show::number(withdrawn.amount);
     settle(bytes, withdrawn.contract);
     true
 }

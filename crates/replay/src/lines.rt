@@ -7,14 +7,13 @@ use node::Outcome;
 use node::Timers;
 use sender::Part;
 use sender::Transmit;
-ghost use mathlib.Core.Path.{_≡_};
-ghost use Prim.Native.Nat.{_+_, _≤_, min};
+ghost use Prim.Native.Nat.{_+_, _≤_};
 ghost use lib.ListN.{length};
 
 // The start of a line: the letter of the call and its code.
 pub fn begin(letter: u8, answer: Answer) {
     say(letter);
-    number(answer.number() as u64);
+    show::number(answer.number() as u64);
 }
 
 pub fn end() {
@@ -23,7 +22,7 @@ pub fn end() {
 
 // The results of a node's call.
 pub fn outcome(outcome: Outcome) {
-    number(outcome.written as u64);
+    show::number(outcome.written as u64);
     timers(outcome.timers);
     handed(outcome.handed);
 }
@@ -83,12 +82,6 @@ fn place(start: usize, len: usize) {
     decimal(len as u64);
 }
 
-// One more number of a line.
-pub fn number(x: u64) {
-    say(b' ');
-    decimal(x);
-}
-
 fn decimal(x: u64) {
     io::print_decimal(STDOUT_FILENO, x);
 }
@@ -141,23 +134,12 @@ fn next(bytes: &[u8], at: usize, after: &[u8], from: usize, same: bool) -> usize
     i
 }
 
-// One run: its place, and its bytes, eight at a time while there are eight.
+// One run: its place, and its bytes.
 fn run(after: &[u8], first: usize, end: usize)
     requires { ⌜ end ≤ length (now after) ⌝ }
 {
     say(b'@');
     decimal(first as u64);
     say(b':');
-    let mut i = first;
-    while i < end {
-        let width = least(8, end - i);
-        io::print_hex(STDOUT_FILENO, wire::get(after, i, width), 2 * width);
-        i += width;
-    }
-}
-
-fn least(a: usize, b: usize) -> usize
-    ensures { λ r. ⌜ r ≡ min a b ⌝ }
-{
-    if a < b { a } else { b }
+    show::hex(after, first, end);
 }
