@@ -1,5 +1,7 @@
 -- The bytes that a script works on: how many there are, and how long each buffer among them can be.
+use mathlib.Core.Bool.{cond}
 use Prim.Native.Nat.{ℕ, _+_, _≤_}
+use lib.Dec.{eqb}
 use Rattle.replay.specs.declared.memory.Lengths.{Lengths}
 use Rattle.replay.specs.Image.{nodeSize, senderSize, contractSize}
 
@@ -14,6 +16,10 @@ signaturesRoom = 8192
 
 abbrev pub waitingRoom : ℕ
 waitingRoom = 40960
+
+-- by the letter of the buffer: o, k, g or w
+abbrev pub roomOf : ℕ → ℕ
+roomOf letter = cond (eqb letter 111) outboxRoom (cond (eqb letter 107) keptRoom (cond (eqb letter 103) signaturesRoom waitingRoom))
 
 abbrev pub memorySize : ℕ
 memorySize = nodeSize + senderSize + contractSize + outboxRoom + keptRoom + signaturesRoom + waitingRoom

@@ -114,44 +114,13 @@ fn fill(bytes: &mut [u8], lengths: Lengths, letter: u8, said: &[u8]) -> Turn
     ensures { λ r. ⌜ Within (r .lengths) ⌝ }
 {
     let n = said.len();
-    match letter {
-        b'o' => {
-            if memory::OUTBOX_ROOM < n {
-                return ended(lengths);
-            }
-            wire::copy(bytes, memory::OUTBOX_AT, said, 0, n);
-            going(Lengths {
-                outbox: n,
-                ..lengths
-            })
-        }
-        b'k' => {
-            if memory::KEPT_ROOM < n {
-                return ended(lengths);
-            }
-            wire::copy(bytes, memory::KEPT_AT, said, 0, n);
-            going(Lengths { kept: n, ..lengths })
-        }
-        b'g' => {
-            if memory::SIGNATURES_ROOM < n {
-                return ended(lengths);
-            }
-            wire::copy(bytes, memory::SIGNATURES_AT, said, 0, n);
-            going(Lengths {
-                signatures: n,
-                ..lengths
-            })
-        }
-        _ => {
-            if memory::WAITING_ROOM < n {
-                return ended(lengths);
-            }
-            wire::copy(bytes, memory::WAITING_AT, said, 0, n);
-            going(Lengths {
-                waiting: n,
-                ..lengths
-            })
-        }
+    if memory::room(letter) < n {
+        return ended(lengths);
+    }
+    wire::copy(bytes, memory::place(letter), said, 0, n);
+    Turn {
+        more: true,
+        lengths: memory::resized(lengths, letter, n),
     }
 }
 
@@ -161,16 +130,6 @@ fn ended(lengths: Lengths) -> Turn
 {
     Turn {
         more: false,
-        lengths,
-    }
-}
-
-fn going(lengths: Lengths) -> Turn
-    requires { ⌜ Within lengths ⌝ }
-    ensures { λ r. ⌜ Within (r .lengths) ⌝ }
-{
-    Turn {
-        more: true,
         lengths,
     }
 }

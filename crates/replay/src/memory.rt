@@ -2,8 +2,10 @@
 // its longest.
 use crate::image;
 use crate::lines;
+ghost use mathlib.Core.Path.{_≡_};
 ghost use Prim.Native.Nat.{_+_, _≤_};
 ghost use lib.ListN.{length};
+ghost use Rattle.replay.specs.Memory.{memorySize, roomOf, Within};
 
 // The room of each buffer.
 pub const OUTBOX_ROOM: usize = 8192;
@@ -37,6 +39,45 @@ pub struct Lengths {
     pub kept: usize,
     pub signatures: usize,
     pub waiting: usize,
+}
+
+// Where the buffer of a letter begins.
+pub fn place(letter: u8) -> usize
+    ensures { λ r. ⌜ r + roomOf letter ≤ memorySize ⌝ }
+{
+    match letter {
+        b'o' => OUTBOX_AT,
+        b'k' => KEPT_AT,
+        b'g' => SIGNATURES_AT,
+        _ => WAITING_AT,
+    }
+}
+
+// How long the buffer of a letter can be.
+pub fn room(letter: u8) -> usize
+    ensures { λ r. ⌜ r ≡ roomOf letter ⌝ }
+{
+    match letter {
+        b'o' => OUTBOX_ROOM,
+        b'k' => KEPT_ROOM,
+        b'g' => SIGNATURES_ROOM,
+        _ => WAITING_ROOM,
+    }
+}
+
+// The lengths with that of one buffer changed, by its letter.
+pub fn resized(lengths: Lengths, letter: u8, n: usize) -> Lengths
+    requires { ⌜ Within lengths × (n ≤ roomOf letter) ⌝ }
+    ensures { λ r. ⌜ Within r ⌝ }
+{
+    let mut after = lengths;
+    match letter {
+        b'o' => after.outbox = n,
+        b'k' => after.kept = n,
+        b'g' => after.signatures = n,
+        _ => after.waiting = n,
+    }
+    after
 }
 
 // Writes an image of so many bytes at its place; false where there are more bytes, or fewer.
