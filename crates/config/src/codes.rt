@@ -1,6 +1,5 @@
 // The codes of document 01, and what they say.
 use crate::Answer;
-use crate::Config;
 ghost use mathlib.Core.Path.{_≡_};
 ghost use Rattle.config.specs.Codes.{numberOf, isDone, making};
 

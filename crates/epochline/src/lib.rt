@@ -4,7 +4,6 @@ mod printing;
 mod reading;
 
 use config::Answer;
-use config::Config;
 use node::Node;
 ghost use mathlib.Core.Path.{_≡_};
 ghost use mathlib.Core.List.{List};

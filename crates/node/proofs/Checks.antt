@@ -1,11 +1,9 @@
 -- How the checks of a call stand one after another: what a check that passed tells, and that STATE and ROOM come before the event's own.
 use mathlib.Core.Bool.{Bool, true, false, not, cond, _&&_}
 use mathlib.Core.List.{List}
-use mathlib.Core.Path.{_≡_, refl, ap, sym, _∙_}
-use Prim.Native.Nat.{ℕ, _+_, _-_, _≤_}
-use native.Mathlib.Omega.{arith}
-use borrow.Author.Tests.{leb-true, leb-false, le-leb, lt-leb, not-false}
-use lib.Dec.{leb}
+use mathlib.Core.Path.{_≡_, refl, ap}
+use Prim.Native.Nat.{ℕ, _-_}
+use borrow.Author.Tests.{not-false}
 use Rattle.config.specs.Bounds.{goodConfig, goodTime, goodCommit}
 use Rattle.config.specs.Codes.{numberOf, isDone}
 use Rattle.config.specs.declared.Answer.{Answer}

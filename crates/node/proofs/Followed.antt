@@ -24,9 +24,6 @@ use Rattle.frame.specs.Decode.{roundIn, signedIn, attestedIn, messageOf, bodyIn
 use Rattle.frame.specs.Range.{goodAttested}
 use Rattle.frame.specs.Check.{bodyAnswer}
 use Rattle.frame.proofs.Messages.{by-kind}
-use Rattle.frame.proofs.Entries.{length-entries}
-use Rattle.frame.proofs.Ranges.{good-attested-facts}
-use Rattle.frame.proofs.Readable.{final-fits, readable-long}
 use Rattle.report.specs.Stands.{valuesOf}
 use Rattle.report.specs.Whole.{WholeReport}
 use Rattle.report.specs.Kept.{keeping}

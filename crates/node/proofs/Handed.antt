@@ -23,7 +23,6 @@ use Rattle.report.specs.Stands.{valuesOf}
 use Rattle.report.specs.Whole.{finalLength, partOf, reportOf}
 use Rattle.report.proofs.Order.{newer-of}
 use Rattle.report.proofs.Bodies.{none-handed, stands-long, stands-handed}
-use Rattle.follower.specs.declared.Follower.{Follower}
 use Rattle.follower.specs.declared.Followed.{Followed}
 use Rattle.follower.specs.declared.Raised.the-variants as raised
 use Rattle.follower.specs.State.{isSet}

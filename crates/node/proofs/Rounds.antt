@@ -16,7 +16,6 @@ use Rattle.quorum.proofs.Cases.{either}
 use Rattle.frame.specs.Message.{Message, newEpoch, observeReq, observe, reportReq, report, final, finalEcho, kindOf}
 use Rattle.frame.specs.Claims.{Each}
 use Rattle.frame.proofs.Entries.{each-append}
-use Rattle.report.specs.Stands.{valuesOf}
 use Rattle.report.proofs.Bodies.{none-handed}
 use Rattle.pacemaker.specs.declared.Sent.{Sent}
 use Rattle.pacemaker.specs.declared.Sent.the-variants as sent

@@ -3,7 +3,7 @@ use mathlib.Core.Path.{_∙_}
 use native.Mathlib.Numerals.{add-one}
 use borrow.Author.Needs.{needs}
 use denote.Ref.{now}
-use Rattle.epochline.proofs.Words.{drop-to-end, behind-none}
+use Rattle.epochline.proofs.Words.{behind-none}
 use Rattle.epochline.proofs.reading.behind.Statement.{statement}
 use Rattle.epochline.proofs.reading.behind.Tie as tie
 use Rattle.wire.proofs.Overlay.{rest-from}

@@ -4,7 +4,6 @@ use native.Mathlib.Omega.{arith}
 use borrow.Author.Tests.{lt-leb}
 use Rattle.config.specs.Limits.{outboxSize}
 use Rattle.node.specs.State.{roomy}
-use Rattle.node.proofs.Checks.{leb-behind}
 use Rattle.node.proofs.answers.roomy.Statement.{statement}
 use Rattle.node.proofs.answers.roomy.Tie as tie
 use Rattle.config.proofs.Facts.{leb-left}
