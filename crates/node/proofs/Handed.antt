@@ -42,8 +42,8 @@ use Rattle.node.specs.Typed.{TypedEvent, TypedEvents}
 use Rattle.node.specs.Claims.{Checked, HandedWasChecked, Rising, HandedOnceARound}
 use Rattle.node.proofs.Ruled.{Says}
 use Rattle.node.proofs.Turns.{Turn, paced, moved, followed, led, step-turns, raising-epoch}
-use Rattle.node.proofs.Rounds.{leaves, round-stays}
-use Rattle.node.proofs.Bodies.{frame-stands, body-stands, stands-long, stands-handed, none-handed}
+use Rattle.node.proofs.Rounds.{leaves}
+use Rattle.node.proofs.Bodies.{frame-stands, body-stands}
 use Rattle.node.proofs.Kept.{Keeps, Brings, brought-checked, keeps-brings, keeps-after, begun-few, begun-keeps, all-one}
 
 -- ---- one event

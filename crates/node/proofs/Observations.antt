@@ -23,8 +23,7 @@ use Rattle.frame.specs.Decode.{epochIn, roundIn, valueIn, observeSignature, kin
 use Rattle.frame.specs.Check.{bodyAnswer}
 use Rattle.frame.proofs.Entries.{length-part}
 use Rattle.frame.proofs.Framed.{checked-frame}
-use Rattle.frame.proofs.Checked.{checked-observe, checked-frame}
-use Rattle.follower.proofs.Rules.{mark-stays}
+use Rattle.frame.proofs.Checked.{checked-observe}
 use Rattle.follower.proofs.Findings.{finding-taken}
 use Rattle.leader.specs.declared.Leader.{Leader}
 use Rattle.leader.specs.State.{collecting, inGrace}

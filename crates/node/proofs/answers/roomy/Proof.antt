@@ -3,12 +3,10 @@ use Prim.Native.Nat.{_+_}
 use native.Mathlib.Omega.{arith}
 use borrow.Author.Tests.{lt-leb}
 use Rattle.config.specs.Limits.{outboxSize}
+use Rattle.config.proofs.Facts.{leb-left}
 use Rattle.node.specs.State.{roomy}
 use Rattle.node.proofs.answers.roomy.Statement.{statement}
 use Rattle.node.proofs.answers.roomy.Tie as tie
-use Rattle.config.proofs.Facts.{leb-left}
-use Rattle.node.proofs.roomy.Statement.{statement}
-use Rattle.node.proofs.roomy.Tie as tie
 
 returns : tie.Need-returns
 unfolding roomy
