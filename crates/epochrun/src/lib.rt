@@ -2,6 +2,11 @@
 use config::Config;
 use epochline::Program;
 use libc::STDOUT_FILENO;
+ghost use mathlib.Core.Path.{_≡_};
+ghost use lib.ListN.{replicate};
+ghost use Rattle.config.specs.Limits.{frameSize};
+ghost use Rattle.epochline.specs.Machine.{byteTurn, newMachine};
+ghost use Rattle.epochrun.specs.Run.{machineOf};
 
 // A run of the program, with the buffers that it lends to the library.
 pub struct Run {
@@ -11,8 +16,11 @@ pub struct Run {
     pub program: Program,
 }
 
-// A run that has read nothing, with the frame buffer that the program has made.
-pub fn begin(outbox: [u8; Config::FRAME]) -> Run {
+// A run that has read nothing, with the frame buffer that the program has made: zero bytes.
+pub fn begin(outbox: [u8; Config::FRAME]) -> Run
+    requires { ⌜ outbox ≡ replicate frameSize 0 ⌝ }
+    ensures { λ r. ⌜ machineOf r ≡ newMachine ⌝ }
+{
     let program = Program::new();
     Run {
         outbox,
@@ -23,7 +31,9 @@ pub fn begin(outbox: [u8; Config::FRAME]) -> Run {
 }
 
 // One byte of the input.
-pub fn feed(run: Run, byte: u8) -> Run {
+pub fn feed(run: Run, byte: u8) -> Run
+    ensures { λ r. ⌜ machineOf r ≡ byteTurn (machineOf run) byte .machine-after ⌝ }
+{
     let mut outbox = run.outbox;
     let mut kept = run.kept;
     let mut signatures = run.signatures;

@@ -1,4 +1,4 @@
--- `epochcases::take_input` is safe and ends: the bytes that are left count down.
+-- `epochcases::take_input` is safe and ends: the bytes that are left count down. The frame buffer that it makes has the zeros that `begin` asks for.
 use native.Mathlib.Omega.{arith}
 use borrow.Author.Needs.{needs}
 use Rattle.epochcases.proofs.take_input.Statement.{statement}

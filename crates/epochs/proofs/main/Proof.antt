@@ -1,4 +1,4 @@
--- `epochs::main` is safe and ends: its turns count down.
+-- `epochs::main` is safe and ends: its turns count down. The frame buffer that it makes has the zeros that `begin` asks for.
 use native.Mathlib.Omega.{arith}
 use borrow.Author.Needs.{needs}
 use Rattle.epochs.proofs.main.Statement.{statement}
