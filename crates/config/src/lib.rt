@@ -1,5 +1,5 @@
 // The configuration of a feed, and what every other crate asks about it: limits, codes, times, commits, leaders.
-// Tests are joined by `&`: none of them has to wait for another, and the prover reads the whole as one value.
+// Tests are joined by `&`: none of them has to wait for another.
 mod codes;
 mod schedule;
 mod times;
@@ -20,7 +20,7 @@ pub struct Config {
     pub number: u64,
     // Delta_C: when more milliseconds than this have passed since the commit, a report is due whatever its median
     pub delta_c: u64,
-    // Delta_stage: how many milliseconds one stage of senders waits for the stage before it
+    // Delta_stage: stage k of the senders waits k times so many milliseconds
     pub delta_stage: u64,
     // how far a median may move before a report is due, in parts per billion of the committed one
     pub alpha: u32,
@@ -80,7 +80,7 @@ pub struct Commit {
     pub round: u8,
 }
 
-// What a node saves before any of its frames leave, and is restored from.
+// What a host saves of a node before any of its frames leave, and restores it from.
 #[repr(C)]
 pub struct Saved {
     pub epoch: u32,

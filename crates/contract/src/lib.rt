@@ -41,7 +41,7 @@ pub struct Made {
     pub contract: Contract,
 }
 
-// What a submission is refused with; `fault` is the detail where checks 14 to 17 refuse it.
+// What a submission is answered before it is paid for: DONE or a code; `fault` is the detail where checks 14 to 17 refuse it.
 pub struct Refusal {
     pub answer: Answer,
     pub fault: Fault,
@@ -158,7 +158,7 @@ impl Contract {
         self.after_range(body, transmitter, bits)
     }
 
-    // 13, then 14 to 17, of a body in range.
+    // 13, then 14 to 17, of a body in range; then 7 and 18.
     fn after_range(self, body: &[u8], transmitter: u8, bits: u64) -> Refusal
         requires { ⌜ (bodyAnswer (self .terms .n) 6 (now body) ≡ Done) × (goodContract self ≡ true) ⌝ }
         ensures { λ r. ⌜ r ≡ afterRange self (attestedIn (now (body .entry))) transmitter bits ⌝ }
@@ -234,7 +234,7 @@ impl Contract {
         }
     }
 
-    // 2, 9
+    // 2, 9.
     fn deposit_answer(self, amount: u64) -> Answer
         ensures { λ r. ⌜ r ≡ depositAnswer self amount ⌝ }
     {
@@ -272,7 +272,7 @@ impl Contract {
         }
     }
 
-    // 2, 7
+    // 2, 7.
     fn withdraw_answer(self, member: u8) -> Answer
         ensures { λ r. ⌜ r ≡ withdrawAnswer self member ⌝ }
     {

@@ -46,7 +46,7 @@ pub struct Fed {
 impl Program {
     pub const LINE: usize = 17;
 
-    // The most that is printed at once.
+    // Room for what is printed at once.
     pub const PRINTED: usize = 48;
 
     const FIRST: u8 = 0;

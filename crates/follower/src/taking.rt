@@ -1,4 +1,4 @@
-// Which messages a follower takes, and what is wrong with those that it does not.
+// Which messages a follower takes, and what is wrong with one that it takes.
 use crate::Finding;
 use crate::Follower;
 use config::Answer;

@@ -66,7 +66,7 @@ abbrev pub ReadAlikeIsOne : Type 0
 ReadAlikeIsOne =
     (f g : List ℕ) (n number link : ℕ) → Bytes f → Bytes g → frameAnswer f n number link ≡ Done → frameAnswer g n number link ≡ Done → messageIn f ≡ messageIn g → f ≡ g
 
--- A FINAL body says one thing wherever it stands: at the start of a longer list of bytes it says the same, and bytes whose report is in range
+-- A FINAL body says one thing wherever it stands: at the start of a longer list of bytes it says the same, and bytes that hold a whole one
 -- begin with the one body that says so.
 abbrev pub FinalAtTheStart : Type 0
 FinalAtTheStart =

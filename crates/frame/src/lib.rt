@@ -1,4 +1,4 @@
-// Reading frames: the table of kinds, the checks 4 to 9 of document 01, and the parts of a body. Nobody else knows a length.
+// Reading frames: the table of kinds, the checks 4 to 9 of document 01, and the parts of a body. The lengths of bodies stand here alone.
 mod checking;
 mod reading;
 
@@ -52,7 +52,7 @@ pub enum BodyStart {
     At(usize),
 }
 
-// NEWEPOCH, OBSERVE-REQ, OBSERVE, REPORT-REQ, REPORT, FINAL, FINAL-ECHO
+// NEWEPOCH, OBSERVE-REQ, OBSERVE, REPORT-REQ, REPORT, FINAL, FINAL-ECHO.
 const TABLE: [Shape; 7] = [
     Shape {
         base: 4,

@@ -79,7 +79,7 @@ pub fn observe_signature(body: &[u8]) -> &[u8]
     &body[start..end]
 }
 
-// m
+// How many observations a body lists: m.
 pub fn count_of(body: &[u8]) -> usize
     requires { ⌜ listPlace ≤ length (now body) ⌝ }
     ensures { λ r. ⌜ (r ≡ countIn (now (body .entry))) × (r ≤ 255) ⌝ }
@@ -121,7 +121,7 @@ pub fn report_signature(body: &[u8]) -> &[u8]
     &body[start..end]
 }
 
-// s
+// How many have signed it: s.
 pub fn signer_count(body: &[u8]) -> usize
     requires { ⌜ (listPlace ≤ length (now body)) × (listEnd (now body) < length (now body)) ⌝ }
     ensures { λ r. ⌜ (r ≡ signerCountIn (now (body .entry))) × (r ≤ 255) ⌝ }

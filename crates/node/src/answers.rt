@@ -163,7 +163,7 @@ impl Node {
         }
     }
 
-    // A delivery: 2, 3, then 4 to 9 of the frame.
+    // A delivery: 2, 3, 4 to 9 of the frame, then what comes after those.
     pub(crate) fn delivery_answer(
         self,
         link: u8,

@@ -1,5 +1,4 @@
-// Writing frames: each writer lays the frame of its message over the outbox from a position on, and nothing else. Long frames go
-// straight into the outbox.
+// Writing frames: each writer lays the frame of its message over the outbox from a position on, and nothing else.
 use config::Config;
 ghost use mathlib.Core.Path.{_≡_};
 ghost use Prim.Native.Nat.{_+_, _*_, _^_, _≤_, _<_};

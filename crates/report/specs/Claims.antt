@@ -22,7 +22,7 @@ use Rattle.report.specs.Faults.{codeOf}
 use Rattle.report.specs.Stands.{membersOf, valuesOf, listFault}
 use Rattle.report.specs.Kept.{keeping}
 
--- A report is answered with Done exactly where nothing is wrong with it.
+-- A report is answered with Done only where nothing is wrong with it.
 abbrev pub DoneIsNothing : Type 0
 DoneIsNothing = (x : Fault) → isDone (codeOf x) ≡ true → x ≡ Nothing
 

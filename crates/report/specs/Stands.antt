@@ -1,4 +1,4 @@
--- Document 01, "Codes", 14 to 17, in their order: whether a report stands. One account for follower, sender and contract.
+-- Document 01, "Codes", 14 to 17, in their order: whether a report stands. One account for follower and contract.
 use mathlib.Core.Bool.{Bool, true, not, cond, _&&_}
 use mathlib.Core.List.{List, [], _∷_, map}
 use Prim.Native.Nat.{ℕ, _*_}

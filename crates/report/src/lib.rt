@@ -1,4 +1,4 @@
-// What an attested report says and whether it stands: one account for follower, sender and contract.
+// What an attested report says, whether it stands, and how it is kept: one account for follower, sender and contract.
 use config::Answer;
 use config::Config;
 ghost use mathlib.Core.Path.{_≡_};

@@ -63,7 +63,7 @@ impl Sender {
         good
     }
 
-    // 2, 3, then 8 and 9 of the body.
+    // 2, 3, 8 and 9 of the body, then what comes after those.
     pub(crate) fn transmit_answer(
         self,
         body: &[u8],
@@ -88,7 +88,7 @@ impl Sender {
         answer
     }
 
-    // 9 of the time and the commit, then 12.
+    // 9 of the time and the commit, 12, then what comes after those.
     fn after_body(self, body: &[u8], time: u64, commit: Commit, permutation: &[u8]) -> Answer
         requires { ⌜ (goodConfig (self .config) ≡ true) × (bodyAnswer (self .config .n) 6 (now body) ≡ Done) ⌝ }
         ensures { λ r. ⌜ r ≡ afterBody self (now (body .entry)) time commit (now (permutation .entry)) ⌝ }
@@ -151,7 +151,7 @@ impl Sender {
         Answer::Done
     }
 
-    // 2, 3, 9, 1
+    // 2, 3, 9, 1.
     pub(crate) fn timeout_answer(self, time: u64, commit: Commit, waiting: &[u8]) -> Answer
         ensures { λ r. ⌜ r ≡ timeoutAnswer self time commit (now (waiting .entry)) ⌝ }
     {
