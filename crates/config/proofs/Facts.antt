@@ -1,4 +1,4 @@
--- What the tests of a configuration, a commit and an answer tell, as plain facts for whoever passed them.
+-- What the tests of a configuration, a commit and an answer tell, as plain facts for whoever passed them; tests that are joined, and what is left of a bound.
 use mathlib.Core.Bool.{Bool, true, false, _&&_, Bool·beq, cond, false≢true}
 use mathlib.Core.List.{List, [], _∷_}
 use mathlib.Core.Path.{_≡_, refl, sym, ap, _∙_}

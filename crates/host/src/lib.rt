@@ -78,9 +78,10 @@ pub struct LentSender {
 pub struct ContractOutcome {
     // what is to be paid to the member who withdraws
     pub amount: u64,
+    // the signer, counted from 0, that the fault is about
+    pub place: usize,
     // what is wrong with a report that checks 14 to 17 refuse: 0 nothing, 1 too few observations, 2 a falling value, 3 a member twice, 4 too few
     // signers, 5 the signer at `place` twice, 6 a signature at `place` that did not verify
-    pub place: usize,
     pub fault: u8,
     // the code
     pub answer: u8,

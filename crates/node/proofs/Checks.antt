@@ -65,7 +65,6 @@ module _ (room : Bool) (n : Node) (kept : List ℕ) (a : Answer) where
       go true false = refl
       go false roomy = refl
 
--- a part of k behind a position
 -- ---- the event's own
 
 module _ (n : Node) where

@@ -1,4 +1,4 @@
--- What a reader may quote of the sender: each claim is a type, proved in `proofs/Claims.antt`.
+-- What a reader may quote of the sender: each claim is a type, proved in `proofs/Claims.antt` or `proofs/Listed.antt`.
 use mathlib.Core.Path.{_≡_}
 use mathlib.Core.Bool.{true, false, cond, _&&_}
 use mathlib.Core.Logic.{_⊎_}
