@@ -3,11 +3,11 @@ use mathlib.Core.Bool.{Bool, true, false, cond}
 use mathlib.Core.Logic.{_⊎_, inl, inr}
 use mathlib.Core.List.{List, [], _∷_}
 use mathlib.Core.Path.{_≡_, refl, sym, ap, _∙_}
-use Prim.Native.Nat.{_+_}
+use Prim.Native.Nat.{ℕ, _+_, _*_}
 use native.Mathlib.Omega.{arith}
 use borrow.Author.Tests.{ne-eqb}
 use lib.IntN.{pos}
-use lib.ListN.{length}
+use lib.ListN.{length, length-map}
 use lib.Seq.{getD-set-same, getD-set-other}
 use Rattle.config.specs.Limits.{members, mostDeposits}
 use Rattle.config.specs.Codes.{numberOf, isDone}
@@ -15,7 +15,7 @@ use Rattle.config.specs.declared.Answer.the-variants as answer
 use Rattle.config.specs.declared.Commit.{Commit}
 use Rattle.wire.specs.Numbers.{beFrom, beNumber, beBytes}
 use Rattle.quorum.specs.First.{firstAt}
-use Rattle.frame.specs.Message.{Attested, blank}
+use Rattle.frame.specs.Message.{Observation, Attested, blank}
 use Rattle.frame.specs.Table.{table, shapeOf, bodyLength}
 use Rattle.frame.specs.Encode.{observationBytes, signerBytes, flat, headBytes, countedBytes, attestedBytes}
 use Rattle.frame.specs.Decode.{entries, attestedIn, messageOf}
@@ -29,16 +29,17 @@ use Rattle.report.proofs.Stands.{list-fault-nothing, attested-fault-nothing}
 use Rattle.ledger.specs.declared.Account.{Account}
 use Rattle.ledger.specs.declared.Ledger.{Ledger}
 use Rattle.ledger.specs.Ledger.{noMoney, emptied, accountAt, balances, paidOut, depositing, withdrawing, emptyLedger, covered, earning}
+use Rattle.ledger.proofs.Sums.{paid-credited}
 use Rattle.contract.specs.declared.Terms.{Terms}
 use Rattle.contract.specs.declared.Contract.{Contract}
 use Rattle.contract.specs.State.{goodContract, freshContract, placeOf, goodTerms}
 use Rattle.contract.specs.Calls.{afterReport, afterOld, afterRange, refusalOf, earningAll, paying, accepting, withLedger, depositAnswer, withdrawAnswer, submittedOf, depositedOf, withdrawnOf}
 use Rattle.contract.specs.History.{Call, submits, deposits, withdraws, after, run, paysIn, paysOut, paidIn, payments}
-use Rattle.contract.specs.Claims.{DepositsAddUp, RecordsTheHistory, Recorded, OneResult, RefusalChangesNothing, FreshIsGood, GoodStaysGood, RefusedIsNoContract, answered, Accepted, AcceptedPassed, DoneSetsTheCommit, NotOlder, CommitOnlyRises, ExactFees, PaysTheBalance, WithdrawalPaysTheBalance}
+use Rattle.contract.specs.Claims.{DepositsAddUp, RecordsTheHistory, Recorded, OneResult, RefusalChangesNothing, FreshIsGood, GoodStaysGood, RefusedIsNoContract, answered, Accepted, AcceptedPassed, DoneSetsTheCommit, NotOlder, CommitOnlyRises, ExactFees, FeesOutOfTheFund, PaysTheBalance, WithdrawalPaysTheBalance}
 use Rattle.contract.proofs.Facts.{terms-facts, contract-facts, good-contract, deposit-passed, withdraw-passed, place-within, submit-passed}
-use Rattle.contract.proofs.Fees.{listedIn}
+use Rattle.contract.proofs.Fees.{listedIn, fund-all}
 use Rattle.contract.proofs.Moves.{Moved, moved-none, moved-then, deposit-moved, withdraw-moved, submit-ready, ready-listed, submit-moved}
-use Rattle.contract.proofs.Shares.{earn-share, earn-all-share}
+use Rattle.contract.proofs.Shares.{earn-share, earn-all-share, earn-all-paid}
 
 pub refusal-changes-nothing : RefusalChangesNothing
 unfolding submittedOf depositedOf withdrawnOf
@@ -191,6 +192,21 @@ exact-fees c body transmitter time bits member long low high h =
     let sent = earn-share (earningAll (c .ledger) listed fee) transmitter (c .terms .«sending_fee») member (omega arith) (omega arith) low (r .own .some) (omega arith) (a .fund) in
     rw h (omega arith)
 
+pub fees-out-of-the-fund : FeesOutOfTheFund
+unfolding submittedOf accepting paying earning
+fees-out-of-the-fund c body transmitter time bits long h =
+    let listed = listedIn body in
+    let fee = c .terms .«observation_fee» in
+    let r = submit-ready c body transmitter time bits long h in
+    let m = submit-moved c body transmitter time bits long h in
+    let left = fund-all (c .ledger) listed fee (omega arith) in
+    let count = ap (λ (k : ℕ). k * fee) (length-map (attestedIn body .list) (λ (o : Observation). o .member)) in
+    record {
+      fund = rw h (omega arith);
+      deposits = rw h (omega arith);
+      paid = λ place. rw h (paid-credited (earningAll (c .ledger) listed fee .accounts) (placeOf transmitter) place (c .terms .«sending_fee») ∙ earn-all-paid (c .ledger) listed fee place);
+    }
+
 -- ---- withdrawals
 
 pub withdrawal-pays-the-balance : WithdrawalPaysTheBalance
@@ -299,6 +315,13 @@ later-balances : (accountAt (later .ledger .accounts) (placeOf 1) .balance ≡ 5
 unfolding run depositedOf depositAnswer withdrawnOf withdrawAnswer withdrawing goodContract goodTerms covered balances paidOut numberOf attestedBytes headBytes countedBytes flat observationBytes signerBytes beBytes beNumber beFrom entries shapeOf table
 later-balances =
     (exact-fees before (attestedBytes three) 1 5 3 1 before-long (omega arith) (omega arith) three-done, exact-fees before (attestedBytes three) 1 5 3 4 before-long (omega arith) (omega arith) three-done)
+
+-- three observations and the sending cost 9 of the 100, and nobody is paid yet
+later-fund : (later .ledger .fund + 9 ≡ 100) × (later .ledger .deposits ≡ 100) × (accountAt (later .ledger .accounts) (placeOf 1) .paid ≡ 0)
+unfolding run depositedOf depositAnswer withdrawnOf withdrawAnswer withdrawing goodContract goodTerms covered balances paidOut numberOf attestedBytes headBytes countedBytes flat observationBytes signerBytes beBytes beNumber beFrom entries shapeOf table
+later-fund =
+    let o = fees-out-of-the-fund before (attestedBytes three) 1 5 3 before-long three-done in
+    (o .fund, o .deposits, o .paid (placeOf 1))
 
 -- member 1 is paid its 5, and the others keep theirs
 later-withdraws : isDone (withdrawnOf later 1 .answer) ≡ true

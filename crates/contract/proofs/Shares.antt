@@ -1,4 +1,4 @@
--- What each account has once fees are paid: the fee where its member is listed, and nothing more.
+-- What each account has once fees are paid: the fee where its member is listed, and nothing more; and what it was paid, as before.
 use mathlib.Core.Bool.{Bool, true, false, cond, _||_, false≢true}
 use mathlib.Core.List.{List, [], _∷_}
 use mathlib.Core.Path.{_≡_, refl, sym, ap, _∙_}
@@ -16,7 +16,7 @@ use Rattle.frame.proofs.Ranges.{OneTo}
 use Rattle.ledger.specs.declared.Account.{Account}
 use Rattle.ledger.specs.declared.Ledger.{Ledger}
 use Rattle.ledger.specs.Ledger.{noMoney, credited, accountAt, owed, earning}
-use Rattle.ledger.proofs.Sums.{sums-set}
+use Rattle.ledger.proofs.Sums.{sums-set, paid-credited}
 use Rattle.contract.specs.State.{placeOf}
 use Rattle.contract.specs.Calls.{earningAll}
 use Rattle.contract.proofs.Moves.{moved-earn}
@@ -60,3 +60,9 @@ earn-all-share l (m ∷ listed) amount n k few w h each f d low =
     let rest = earn-all-share (earning l (placeOf m) amount) listed amount n k (omega arith) (omega arith) (omega arith) (λ i j. each (suc i) (omega arith)) (omega arith) (apart .1) low in
     let both = one-of amount (eqb k m) (among k listed) (λ e. ap (λ (j : ℕ). among j listed) (eqb-true k m e) ∙ apart .0) in
     omega arith
+
+pub earn-all-paid : (l : Ledger) (listed : List ℕ) (amount place : ℕ) → accountAt (earningAll l listed amount .accounts) place .paid ≡ accountAt (l .accounts) place .paid
+unfolding earningAll earning
+earn-all-paid l [] amount place = refl
+earn-all-paid l (m ∷ listed) amount place =
+    earn-all-paid (earning l (placeOf m) amount) listed amount place ∙ paid-credited (l .accounts) (placeOf m) place amount

@@ -24,7 +24,7 @@ use Rattle.contract.specs.declared.Deposited.{Deposited}
 use Rattle.contract.specs.declared.Withdrawn.{Withdrawn}
 use Rattle.contract.specs.State.{goodTerms, goodContract, freshContract, placeOf}
 use Rattle.ledger.specs.Ledger.{accountAt, balances, paidOut}
-use Rattle.contract.specs.Calls.{madeOf, submittedOf, depositedOf, withdrawnOf}
+use Rattle.contract.specs.Calls.{cost, madeOf, submittedOf, depositedOf, withdrawnOf}
 use Rattle.contract.specs.History.{Call, submits, deposits, withdraws, after, run, paidIn, payments}
 
 -- "Deposits in the history equal fund plus balances plus payments in the history." Of a fresh contract, after any calls, refused ones among them.
@@ -118,6 +118,16 @@ earned c listed transmitter member = cond (among member listed) (c .terms .«obs
 abbrev pub ExactFees : Type 0
 ExactFees =
     (c : Contract) (body : List ℕ) (transmitter time bits member : ℕ) → length (c .ledger .accounts) ≡ members → 1 ≤ member → member ≤ members → isDone (submittedOf c body transmitter time bits .answer) ≡ true → accountAt (submittedOf c body transmitter time bits .contract .ledger .accounts) (placeOf member) .balance ≡ accountAt (c .ledger .accounts) (placeOf member) .balance + earned c (membersOf (attestedIn body .list)) transmitter member
+
+-- "out of the fund": a submission that is DONE takes from the fund what its report costs; the deposits, and what each account was paid, stay.
+pub record OutOfTheFund (c after-call : Contract) (observations : ℕ) : Type 0 where
+  pub fund : after-call .ledger .fund + cost (c .terms) observations ≡ c .ledger .fund
+  pub deposits : after-call .ledger .deposits ≡ c .ledger .deposits
+  pub paid : (place : ℕ) → accountAt (after-call .ledger .accounts) place .paid ≡ accountAt (c .ledger .accounts) place .paid
+
+abbrev pub FeesOutOfTheFund : Type 0
+FeesOutOfTheFund =
+    (c : Contract) (body : List ℕ) (transmitter time bits : ℕ) → length (c .ledger .accounts) ≡ members → isDone (submittedOf c body transmitter time bits .answer) ≡ true → OutOfTheFund c (submittedOf c body transmitter time bits .contract) (length (attestedIn body .list))
 
 -- "Withdrawal pays the whole balance": one that is DONE pays what the account has, and leaves nothing in it; the fund and every other account stay.
 pub record PaysTheBalance (c : Contract) (member : ℕ) : Type 0 where
