@@ -36,11 +36,12 @@ use Rattle.report.proofs.Bodies.{good-short, none-handed}
 use Rattle.sender.specs.declared.Sender.{Sender}
 use Rattle.sender.specs.declared.Accepted.{Accepted}
 use Rattle.sender.specs.declared.Transmit.the-variants.{Leave}
+use Rattle.sender.specs.declared.Queued.{Queued}
 use Rattle.sender.specs.declared.Part.{Part}
 use Rattle.sender.specs.State.{freshSender, slotIn, goodTimes, goodSlots, goodFields, goodSender}
 use Rattle.sender.specs.Stage.{permutes, stageOf, stageFor, stagesOf, placeIn, waits}
 use Rattle.sender.specs.Waiting.{waitingBelow, waiting, earliestBelow, earliest, freeIn}
-use Rattle.sender.specs.Calls.{afterSimilar, afterConfig, afterBody, transmitAnswer, acceptedOf, withAccepted, queueing, dueAt, accepting, transmitted, transmitOf, early, timeoutAnswer, nothing, releasing, released, timeoutOf, handedPart}
+use Rattle.sender.specs.Calls.{afterSimilar, afterConfig, afterBody, transmitAnswer, acceptedOf, withAccepted, queueing, dueAt, accepting, Sent, sent, transmitted, transmitOf, early, timeoutAnswer, nothing, releasing, released, timeoutOf, handedPart}
 use Rattle.sender.specs.History.{Whole, Call, transmits, expires, after, run, queuedIn, removedIn, handedBy}
 use Rattle.sender.specs.Claims.{RefusalChangesNothing, FreshIsGood, GoodStaysGood, RefusedIsNoSender, OneResult, ConfigurationStays, DoneIsAccepted, AcceptsOnlyNewer, NotOlder, AcceptedOnlyRises, NothingIsLost, NothingWaitsAtFirst, Rising, QueuedOnlyRises, ifNewer, HandsOutWhatItRemoves, Stays, SlotsStay, TimeoutTakesTheEarliest, TimeoutsEmptyTheQueue, StageHoldsThePlace, BeyondTheLastStage, EveryPlaceIsTaken, Good, RemovesOne, Timeout, calling, Holds}
 use Rattle.sender.proofs.Places.{stage-holds, stage-beyond, member-among}
@@ -91,7 +92,13 @@ refused-is-no-sender c bytes h =
 
 pub one-result : OneResult
 one-result s time commit bytes =
-    record { made = λ c r r′ e e′. e ∙ sym e′; transmit = λ body permutation r r′ e e′. e ∙ sym e′; timeout = λ r r′ e e′. e ∙ sym e′ }
+    record {
+      made = λ c r r′ e e′. e ∙ sym e′;
+      transmit = λ body permutation r r′ b b′ e e′.
+          let same = e ∙ sym e′ in
+          (ap (λ (x : Sent). x .result) same, ap (λ (x : Sent). x .slots) same);
+      timeout = λ r r′ e e′. e ∙ sym e′;
+    }
 
 pub configuration-stays : ConfigurationStays
 configuration-stays = config-run
@@ -257,6 +264,15 @@ begun-refuses =
     let t = r .transmit (attestedBytes (reported 1)) 5 (commitOf 0 0) (1 ∷ 3 ∷ 3 ∷ 4 ∷ []) refl in
     let u = r .timeout 5 (commitOf 0 0) refl in
     (refl, t .0, t .2, refl, u .0, u .2)
+
+-- so whatever keeps that promise says CONFIG and leaves the slots' bytes
+begun-left : (r : Queued) (b : List ℕ) → sent r b ≡ transmitOf (begun .sender) (attestedBytes (reported 1)) 5 (commitOf 0 0) (1 ∷ 3 ∷ 3 ∷ 4 ∷ []) (begun .slots) → (r .answer ≡ answer.Config) × (b ≡ begun .slots)
+unfolding numberOf
+begun-left r b e =
+    let t = transmitOf (begun .sender) (attestedBytes (reported 1)) 5 (commitOf 0 0) (1 ∷ 3 ∷ 3 ∷ 4 ∷ []) (begun .slots) in
+    let o = one-result (begun .sender) 5 (commitOf 0 0) (begun .slots) .transmit (attestedBytes (reported 1)) (1 ∷ 3 ∷ 3 ∷ 4 ∷ []) r (t .result) b (t .slots) e refl in
+    let stays = refusal-changes-nothing begun .transmit (attestedBytes (reported 1)) 5 (commitOf 0 0) (1 ∷ 3 ∷ 3 ∷ 4 ∷ []) (ap isDone (begun-refuses .0)) .1 in
+    (ap (λ (q : Queued). q .answer) (o .0) ∙ begun-refuses .0, o .1 ∙ stays)
 
 -- member 5 of 4
 none-made : timeoutOf (freshSender (configOf 9 4 1 5 10 5000000 1000 100 2 (1 ∷ 2 ∷ []))) 5 (commitOf 0 0) (begun .slots) .answer ≡ answer.State

@@ -22,12 +22,13 @@ use Rattle.report.specs.Newer.{newer}
 use Rattle.sender.specs.declared.Sender.{Sender}
 use Rattle.sender.specs.declared.Accepted.{Accepted}
 use Rattle.sender.specs.declared.Made.{Made}
+use Rattle.sender.specs.declared.Queued.{Queued}
 use Rattle.sender.specs.declared.Released.{Released}
 use Rattle.sender.specs.declared.Transmit.the-variants.{Leave}
 use Rattle.sender.specs.State.{freshSender, goodSender, roomy, taken, timeOf, slotIn}
 use Rattle.sender.specs.Stage.{permutes, stageFor, waits, stagesOf}
 use Rattle.sender.specs.Waiting.{Waiting, waiting, earliest}
-use Rattle.sender.specs.Calls.{madeOf, Sent, acceptedOf, transmitOf, timeoutOf, nothing, handedPart}
+use Rattle.sender.specs.Calls.{madeOf, sent, acceptedOf, transmitOf, timeoutOf, nothing, handedPart}
 use Rattle.sender.specs.History.{Whole, Call, transmits, expires, after, run, removedBy, queuedIn, removedIn, handedBy}
 
 -- the tables of a sender have a place for each slot, as its arrays do
@@ -80,10 +81,10 @@ pub record Listed (w : Whole) (call : Call) (c : Config) : Type 0 where
 abbrev pub AnswersAreListed : Type 0
 AnswersAreListed = (w : Whole) (call : Call) (c : Config) → Listed w call c
 
--- What one promise allows is one result.
+-- What one promise allows is one result, and one content of the slots.
 pub record OneEach (s : Sender) (time : ℕ) (commit : Commit) (bytes : List ℕ) : Type 0 where
   pub made : (c : Config) (r r′ : Made) → r ≡ madeOf c → r′ ≡ madeOf c → r ≡ r′
-  pub transmit : (body permutation : List ℕ) (r r′ : Sent) → r ≡ transmitOf s body time commit permutation bytes → r′ ≡ transmitOf s body time commit permutation bytes → r ≡ r′
+  pub transmit : (body permutation : List ℕ) (r r′ : Queued) (b b′ : List ℕ) → sent r b ≡ transmitOf s body time commit permutation bytes → sent r′ b′ ≡ transmitOf s body time commit permutation bytes → (r ≡ r′) × (b ≡ b′)
   pub timeout : (r r′ : Released) → r ≡ timeoutOf s time commit bytes → r′ ≡ timeoutOf s time commit bytes → r ≡ r′
 
 abbrev pub OneResult : Type 0
