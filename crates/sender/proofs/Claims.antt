@@ -38,16 +38,16 @@ use Rattle.sender.specs.declared.Accepted.{Accepted}
 use Rattle.sender.specs.declared.Transmit.the-variants.{Leave}
 use Rattle.sender.specs.declared.Queued.{Queued}
 use Rattle.sender.specs.declared.Part.{Part}
-use Rattle.sender.specs.State.{freshSender, slotIn, goodTimes, goodSlots, goodFields, goodSender}
+use Rattle.sender.specs.State.{freshSender, taken, slotIn, goodTimes, goodSlots, goodFields, goodSender}
 use Rattle.sender.specs.Stage.{permutes, stageOf, stageFor, stagesOf, placeIn, waits}
-use Rattle.sender.specs.Waiting.{waitingBelow, waiting, earliestBelow, earliest, freeIn}
+use Rattle.sender.specs.Waiting.{waitingBelow, waiting, sooner, earliestBelow, earliest, freeIn}
 use Rattle.sender.specs.Calls.{afterSimilar, afterConfig, afterBody, transmitAnswer, acceptedOf, withAccepted, queueing, dueAt, accepting, Sent, sent, transmitted, transmitOf, early, timeoutAnswer, nothing, releasing, released, timeoutOf, handedPart}
 use Rattle.sender.specs.History.{Whole, Call, transmits, expires, after, run, queuedIn, removedIn, handedBy}
 use Rattle.sender.specs.Claims.{RefusalChangesNothing, FreshIsGood, GoodStaysGood, RefusedIsNoSender, OneResult, ConfigurationStays, DoneIsAccepted, AcceptsOnlyNewer, NotOlder, AcceptedOnlyRises, NothingIsLost, NothingWaitsAtFirst, Rising, QueuedOnlyRises, ifNewer, HandsOutWhatItRemoves, Stays, SlotsStay, TimeoutTakesTheEarliest, TimeoutsEmptyTheQueue, StageHoldsThePlace, BeyondTheLastStage, EveryPlaceIsTaken, Good, RemovesOne, Timeout, calling, Holds}
 use Rattle.sender.proofs.Places.{stage-holds, stage-beyond, member-among}
 use Rattle.sender.proofs.Facts.{sender-facts, good-sender, config-refused, transmit-passed, transmit-done, transmit-answer, timeout-passed, timeout-done, timeout-answer}
 use Rattle.sender.proofs.Queue.{heldAt, earliest-law}
-use Rattle.sender.proofs.Writes.{times-none, slots-each, each-slots}
+use Rattle.sender.proofs.Writes.{times-none, taken-here, slots-each, each-slots}
 use Rattle.sender.proofs.Runs.{good-call, rises-run, config-run, queued-rises, slot-stays, moved-run, timeouts-empty}
 use Rattle.sender.proofs.Handed.{report-whole, handed-says, handed-whole, handed-nothing}
 
@@ -165,6 +165,8 @@ timeout-takes-the-earliest w time commit g h =
             one = rw h;
             waited = e .waited;
             due = p .due;
+            freed = rw done (taken-here s slot 0 0 (omega (arith, e .within, g .sized .taken)));
+            lowest = e .lowest;
             earliest = e .first;
             handed = λ q. rw done (handed-says (w .slots) slot commit short room q);
             whole-body = λ q. rw done (handed-whole (w .slots) slot commit (s .config .n) short room q good);
@@ -369,6 +371,19 @@ two-hands = (hands-out-what-it-removes two 205 (commitOf 0 0) two-good, hands-ou
 two-keeps : Stays two (after two (expires 205 (commitOf 0 0))) 0
 unfolding earliestBelow attestedBytes headBytes countedBytes flat observationBytes signerBytes beBytes beNumber beFrom shapeOf table entries
 two-keeps = slots-stay two (expires 205 (commitOf 0 0)) 0 two-good refl .1 (λ z. absurd (omega arith))
+
+-- which is the lower one, since its report comes later
+two-later : sooner (two .sender) (two .slots) 1 0 ≡ true
+unfolding earliestBelow attestedBytes headBytes countedBytes flat observationBytes signerBytes beBytes beNumber beFrom shapeOf table entries
+two-later = two-removes .so .lowest 0 (omega arith) refl
+
+-- of two reports alike the one in the lower slot leaves
+abbrev alike : Whole
+alike = record { sender = two .sender; slots = keptBytes (attestedBytes (reported 1)) ++ (keptBytes (attestedBytes (reported 1)) ++ replicate (14 * keptSize) 0) }
+
+alike-leaves : let w = after alike (expires 205 (commitOf 0 0)) in (taken (w .sender) 0 ≡ false) × (taken (w .sender) 1 ≡ true)
+unfolding timeoutOf timeoutAnswer early earliestBelow released goodSender goodFields goodConfig goodFeed noneEmpty sum flags goodTimes goodSlots numberOf shapeOf table allMembers attestedBytes headBytes countedBytes flat observationBytes signerBytes beBytes beNumber beFrom entries
+alike-leaves = (refl, refl)
 
 abbrev twice : List Timeout
 twice = record { time = 205; commit = commitOf 0 0 } ∷ record { time = 206; commit = commitOf 7 1 } ∷ []

@@ -12,6 +12,7 @@ use lib.ListN.{length}
 use Rattle.config.specs.Limits.{slots}
 use Rattle.quorum.specs.First.{OneOf}
 use Rattle.quorum.specs.Sort.{Perm, then}
+use Rattle.quorum.proofs.Cases.{cases, test}
 use Rattle.quorum.proofs.Perms.{perm-same, perm-back, perm-last}
 use Rattle.frame.specs.Claims.{Each}
 use Rattle.frame.proofs.Entries.{each-append}
@@ -20,7 +21,7 @@ use Rattle.report.proofs.Order.{not-newer-trans, newer-not, newer-self}
 use Rattle.sender.specs.declared.Sender.{Sender}
 use Rattle.sender.specs.State.{taken, timeOf, reportIn}
 use Rattle.sender.specs.Waiting.{Waiting, waitingBelow, waiting, sooner, earliestBelow, earliest}
-use Rattle.sender.specs.Claims.{NotAfter}
+use Rattle.sender.specs.Claims.{NotAfter, LaterBelow}
 
 -- what a slot holds, and the list of that or of nothing
 abbrev pub heldAt : Sender → List ℕ → ℕ → Waiting
@@ -112,6 +113,16 @@ module _ (s : Sender) (bytes : List ℕ) where
       go false true e f h = inr (eqb-true _ _ f, newer-not (reportIn bytes b .epoch) (reportIn bytes b .round) (reportIn bytes a .epoch) (reportIn bytes a .round) h)
       go false false e f h = absurd (false≢true h)
 
+  sooner-strict : (a b : ℕ) → sooner s bytes a b ≡ true → NotAfter (heldAt s bytes b) (heldAt s bytes a) → ⊥
+  sooner-strict a b = go (ltb (timeOf s a) (timeOf s b)) (eqb (timeOf s a) (timeOf s b)) refl refl
+    where
+      go : (p q : Bool) → ltb (timeOf s a) (timeOf s b) ≡ p → eqb (timeOf s a) (timeOf s b) ≡ q → (p || q && newer (reportIn bytes b .epoch) (reportIn bytes b .round) (reportIn bytes a .epoch) (reportIn bytes a .round)) ≡ true → NotAfter (heldAt s bytes b) (heldAt s bytes a) → ⊥
+      go true q e f h (inl g) = omega (arith, ltb-true (timeOf s a) (timeOf s b) e)
+      go true q e f h (inr (g, z)) = omega (arith, ltb-true (timeOf s a) (timeOf s b) e)
+      go false true e f h (inl g) = omega (arith, eqb-true (timeOf s a) (timeOf s b) f)
+      go false true e f h (inr (g, z)) = false≢true (sym z ∙ h)
+      go false false e f h g = false≢true h
+
   sooner-not : (a b : ℕ) → sooner s bytes a b ≡ false → NotAfter (heldAt s bytes b) (heldAt s bytes a)
   sooner-not a b = go (ltb (timeOf s a) (timeOf s b)) (eqb (timeOf s a) (timeOf s b)) refl refl
     where
@@ -120,12 +131,19 @@ module _ (s : Sender) (bytes : List ℕ) where
       go false true e f h = inr (sym (eqb-true _ _ f), h)
       go false false e f h = let apart = eqb-false (timeOf s a) (timeOf s b) f in inl (omega (arith, ltb-false (timeOf s a) (timeOf s b) e))
 
-  -- of the first m slots k holds the earliest, or none of them holds anything
+  -- what is sooner than another comes before all that the other does not come after
+  sooner-then : (a b j : ℕ) → sooner s bytes a b ≡ true → NotAfter (heldAt s bytes b) (heldAt s bytes j) → sooner s bytes a j ≡ true
+  sooner-then a b j h g =
+      cases (test (sooner s bytes a j))
+      (λ e. e)
+      (λ e. absurd (sooner-strict a b h (not-after-trans (heldAt s bytes b) (heldAt s bytes j) (heldAt s bytes a) g (sooner-not a j e))))
+
+  -- of the first m slots k holds the earliest, and what the slots below it hold comes later; or none of them holds anything
   abbrev NoneBelow : ℕ → Type 0
   NoneBelow m = (j : ℕ) → j < m → taken s j ≡ false
 
   abbrev FirstBelow : ℕ → ℕ → Type 0
-  FirstBelow m k = (k < m) × (taken s k ≡ true) × ((j : ℕ) → j < m → taken s j ≡ true → NotAfter (heldAt s bytes k) (heldAt s bytes j))
+  FirstBelow m k = (k < m) × (taken s k ≡ true) × LaterBelow s bytes k × ((j : ℕ) → j < m → taken s j ≡ true → NotAfter (heldAt s bytes k) (heldAt s bytes j))
 
   abbrev Found : ℕ → ℕ → Type 0
   Found m k = ((k ≡ slots) × NoneBelow m) ⊎ FirstBelow m k
@@ -135,12 +153,12 @@ module _ (s : Sender) (bytes : List ℕ) where
   none-next m w e j h = below-more (λ (j : ℕ). taken s j ≡ false) m w e j (omega arith)
 
   first-next : (m k : ℕ) → FirstBelow m k → (taken s m ≡ true → NotAfter (heldAt s bytes k) (heldAt s bytes m)) → FirstBelow (suc m) k
-  first-next m k (h, e, w) here =
-      (omega arith, e, λ j g. below-more (λ (j : ℕ). taken s j ≡ true → NotAfter (heldAt s bytes k) (heldAt s bytes j)) m w here j (omega arith))
+  first-next m k (h, e, later, w) here =
+      (omega arith, e, later, λ j g. below-more (λ (j : ℕ). taken s j ≡ true → NotAfter (heldAt s bytes k) (heldAt s bytes j)) m w here j (omega arith))
 
-  first-here : (m : ℕ) → taken s m ≡ true → ((j : ℕ) → j < m → taken s j ≡ true → NotAfter (heldAt s bytes m) (heldAt s bytes j)) → FirstBelow (suc m) m
-  first-here m e w =
-      (omega arith, e, λ j g. below-more (λ (j : ℕ). taken s j ≡ true → NotAfter (heldAt s bytes m) (heldAt s bytes j)) m w (λ _. not-after-self (heldAt s bytes m)) j (omega arith))
+  first-here : (m : ℕ) → taken s m ≡ true → LaterBelow s bytes m → FirstBelow (suc m) m
+  first-here m e later =
+      (omega arith, e, later, λ j g. below-more (λ (j : ℕ). taken s j ≡ true → NotAfter (heldAt s bytes m) (heldAt s bytes j)) m (λ j l t. sooner-first m j (later j l t)) (λ _. not-after-self (heldAt s bytes m)) j (omega arith))
 
   earliest-found : (m : ℕ) → m ≤ slots → Found m (earliestBelow m s bytes)
   unfolding earliestBelow
@@ -153,28 +171,30 @@ module _ (s : Sender) (bytes : List ℕ) where
       go true true r e f g (inl (z, w)) = inr (first-here m e (λ j l t. absurd (false≢true (sym (w j l) ∙ t))))
       go true true r e f g (inr w) = absurd (omega (arith, eqb-true (earliestBelow m s bytes) slots f, w .0))
       go true false true e f g (inl (z, w)) = absurd (eqb-false (earliestBelow m s bytes) slots f z)
-      go true false true e f g (inr w) = inr (first-here m e (λ j l t. not-after-trans (heldAt s bytes m) (heldAt s bytes (earliestBelow m s bytes)) (heldAt s bytes j) (sooner-first m (earliestBelow m s bytes) g) (w .2 j l t)))
+      go true false true e f g (inr w) = inr (first-here m e (λ j l t. sooner-then m (earliestBelow m s bytes) j g (w .3 j l t)))
       go true false false e f g (inl (z, w)) = absurd (eqb-false (earliestBelow m s bytes) slots f z)
       go true false false e f g (inr w) = inr (first-next m (earliestBelow m s bytes) w (λ t. sooner-not m (earliestBelow m s bytes) g))
 
-  -- where a slot is found it is taken, and it holds one of those that wait, none of which comes before it
+  -- where a slot is found it is taken, and it holds one of those that wait, none of which comes before it, nor with it from a lower slot
   pub record Earliest : Type 0 where
     pub within : earliest s bytes < slots
     pub held : taken s (earliest s bytes) ≡ true
     pub waited : OneOf (heldAt s bytes (earliest s bytes)) (waiting s bytes)
     pub first : Each (NotAfter (heldAt s bytes (earliest s bytes))) (waiting s bytes)
+    pub lowest : LaterBelow s bytes (earliest s bytes)
 
   pub earliest-law : (earliest s bytes ≡ slots → ⊥) → Earliest
   earliest-law some = go (earliest-found slots (omega arith))
     where
       go : Found slots (earliest s bytes) → Earliest
       go (inl (z, w)) = absurd (some z)
-      go (inr (h, e, w)) =
+      go (inr (h, e, later, w)) =
           record {
             within = h;
             held = e;
             waited = one-of-below s bytes slots (earliest s bytes) h e;
             first = each-below s bytes (NotAfter (heldAt s bytes (earliest s bytes))) slots w;
+            lowest = later;
           }
 
   -- where none is found nothing waits
@@ -188,4 +208,4 @@ module _ (s : Sender) (bytes : List ℕ) where
     where
       go : Found slots (earliest s bytes) → ⊥
       go (inl (_, w)) = omega (arith, ap length (none-waits slots w))
-      go (inr (h, e, w)) = omega arith
+      go (inr (h, e, later, w)) = omega arith

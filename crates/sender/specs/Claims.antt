@@ -27,7 +27,7 @@ use Rattle.sender.specs.declared.Released.{Released}
 use Rattle.sender.specs.declared.Transmit.the-variants.{Leave}
 use Rattle.sender.specs.State.{freshSender, goodSender, roomy, taken, timeOf, slotIn}
 use Rattle.sender.specs.Stage.{permutes, stageFor, waits, stagesOf}
-use Rattle.sender.specs.Waiting.{Waiting, waiting, earliest}
+use Rattle.sender.specs.Waiting.{Waiting, waiting, sooner, earliest}
 use Rattle.sender.specs.Calls.{madeOf, sent, acceptedOf, transmitOf, timeoutOf, nothing, handedPart}
 use Rattle.sender.specs.History.{Whole, Call, transmits, expires, after, run, removedBy, queuedIn, removedIn, handedBy}
 
@@ -158,12 +158,18 @@ SlotsStay =
 abbrev pub NotAfter : Waiting → Waiting → Type 0
 NotAfter x y = (x .time < y .time) ⊎ ((x .time ≡ y .time) × (newer (x .report .epoch) (x .report .round) (y .report .epoch) (y .report .round) ≡ false))
 
--- A timeout that is DONE removes the earliest of the reports that wait, at or after its time, and hands out exactly that report if it is newer than
--- the commit, and nothing if it is not.
+-- "(ties: .. slot)": a report in any slot below this one comes later, so of reports equal in time, epoch and round this one is in the lowest slot
+abbrev pub LaterBelow : Sender → List ℕ → ℕ → Type 0
+LaterBelow s bytes slot = (below : ℕ) → below < slot → taken s below ≡ true → sooner s bytes slot below ≡ true
+
+-- A timeout that is DONE removes the earliest of the reports that wait, at or after its time, frees its slot, and hands out exactly that report if it is
+-- newer than the commit, and nothing if it is not.
 pub record Removes (w : Whole) (time : ℕ) (commit : Commit) (x : Waiting) : Type 0 where
   pub one : removedBy w (expires time commit) ≡ x ∷ []
   pub waited : OneOf x (waiting (w .sender) (w .slots))
   pub due : x .time ≤ time
+  pub freed : taken (after w (expires time commit) .sender) (earliest (w .sender) (w .slots)) ≡ false
+  pub lowest : LaterBelow (w .sender) (w .slots) (earliest (w .sender) (w .slots))
   pub earliest : Each (NotAfter x) (waiting (w .sender) (w .slots))
   pub handed : newer (x .report .epoch) (x .report .round) (commit .epoch) (commit .round) ≡ true → attestedIn (handedPart (timeoutOf (w .sender) time commit (w .slots) .handed) (w .slots)) ≡ x .report
   pub whole-body : newer (x .report .epoch) (x .report .round) (commit .epoch) (commit .round) ≡ true → bodyAnswer (w .sender .config .n) 6 (handedPart (timeoutOf (w .sender) time commit (w .slots) .handed) (w .slots)) ≡ answer.Done
