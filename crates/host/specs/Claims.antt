@@ -4,28 +4,39 @@ use mathlib.Core.Bool.{Bool, false}
 use mathlib.Core.List.{List}
 use Prim.Native.Nat.{ℕ}
 use lib.Dec.{eqb}
+use Rattle.host.specs.declared.NodeOutcome.{NodeOutcome}
 use Rattle.host.specs.declared.LentNode.{LentNode}
 use Rattle.host.specs.declared.LentSender.{LentSender}
 use Rattle.host.specs.declared.LentContract.{LentContract}
 use Rattle.host.specs.Lent.{LentOut}
 use Rattle.host.specs.Calls.{restoreAt, startAt, deliverAt, timerAt, senderFreshAt, transmitAt, timeoutAt, contractFreshAt, submitAt, depositAt, withdrawAt}
 
--- ---- "Only code 0 changes anything": a refused call leaves the state, what the host has read, and every byte of a lent buffer; it writes the outcome
+-- ---- "Only code 0 changes anything": a refused call leaves the state, what the host has read, and every byte of a lent buffer; it writes the outcome, which asks nothing of the host
 
 -- whether the code is 0
 abbrev pub done : ℕ → Bool
 done code = eqb code 0
 
+-- no bytes are written, the part handed out is empty, every timer is left alone
+pub record NodeAsksNothing (o : NodeOutcome) : Type 0 where
+  pub written : o .written ≡ 0
+  pub len : o .len ≡ 0
+  pub resend : o .resend ≡ 0
+  pub progress : o .progress ≡ 0
+  pub round : o .round ≡ 0
+  pub grace : o .grace ≡ 0
+
 pub record NodeStays (l : LentNode) (outbox kept signatures : List ℕ) (o : LentOut) : Type 0 where
   pub node : o .lent .node ≡ l .node
   pub commit : o .lent .commit ≡ l .commit
   pub observation : o .lent .observation ≡ l .observation
+  pub asks-nothing : NodeAsksNothing (o .lent .outcome)
   pub outbox-same : o .outbox ≡ outbox
   pub kept-same : o .kept ≡ kept
   pub signatures-same : o .signatures ≡ signatures
 
 pub record NodeRefusals (l : LentNode) (outbox : List ℕ) (at : ℕ) (kept signatures : List ℕ) : Type 0 where
-  pub restore : (epoch highest : ℕ) → let m = restoreAt l epoch highest in done (m .outcome .answer) ≡ false → (m .node ≡ l .node) × (m .commit ≡ l .commit) × (m .observation ≡ l .observation)
+  pub restore : (epoch highest : ℕ) → let m = restoreAt l epoch highest in done (m .outcome .answer) ≡ false → (m .node ≡ l .node) × (m .commit ≡ l .commit) × (m .observation ≡ l .observation) × NodeAsksNothing (m .outcome)
   pub start : (time : ℕ) → let o = startAt l time outbox at kept signatures in done (o .lent .outcome .answer) ≡ false → NodeStays l outbox kept signatures o
   pub deliver : (link time bits : ℕ) (frame : List ℕ) → let o = deliverAt l link time bits frame outbox at kept signatures in done (o .lent .outcome .answer) ≡ false → NodeStays l outbox kept signatures o
   pub timer : (number time : ℕ) → let o = timerAt l number time outbox at kept signatures in done (o .lent .outcome .answer) ≡ false → NodeStays l outbox kept signatures o
