@@ -16,6 +16,8 @@ use Rattle.node.specs.Calls.{restoreAnswer}
 use Rattle.node.specs.Claims.{Unchanged}
 use Rattle.node.proofs.Steps as node-laws
 use Rattle.node.proofs.Listed.{unarmed-changes-nothing}
+use Rattle.sender.specs.declared.Part.{Part}
+use Rattle.sender.specs.State.{freshSender}
 use Rattle.sender.proofs.Claims as sender-laws
 use Rattle.config.specs.Bounds.{configOf, noneEmpty, sum, goodFeed, goodConfig}
 use Rattle.config.specs.Codes.{numberOf}
@@ -30,10 +32,10 @@ use Rattle.contract.proofs.Claims as contract-laws
 use Rattle.host.specs.declared.LentNode.{LentNode}
 use Rattle.host.specs.declared.LentSender.{LentSender}
 use Rattle.host.specs.declared.LentContract.{LentContract}
-use Rattle.host.specs.Numbers.{timerNumber}
+use Rattle.host.specs.Numbers.{timerNumber, transmitNumber}
 use Rattle.host.specs.Lent.{plainOutcome, afterOut, payingOutcome, withContract}
 use Rattle.host.specs.Calls.{restoreAt, startAt, deliverAt, timerCall, timerAt, senderFreshAt, transmitAt, timeoutAt, contractFreshAt, submitAt, depositAt, withdrawAt}
-use Rattle.host.specs.Claims.{done, NodeStays, NodeRefusals, SenderRefusals, ContractRefusals, RefusalChangesNothing}
+use Rattle.host.specs.Claims.{done, NodeStays, NodeRefusals, SenderStays, SenderRefusals, ContractRefusals, RefusalChangesNothing}
 
 -- ---- a node
 
@@ -97,9 +99,13 @@ unfolding senderFreshAt transmitAt timeoutAt
 sender-refusals l slots =
     let kept = sender-laws.refusal-changes-nothing (record { sender = l .sender; slots = slots }) in
     record {
-      fresh = λ h. (rw h, refl);
-      transmit = λ body time permutation h. let u = kept .transmit body time (l .commit) permutation h in (u .0, refl, u .1);
-      timeout = λ time h. (kept .timeout time (l .commit) h .0, refl);
+      fresh = λ h. record { sender = rw h; commit = refl; transmit = refl; len = refl };
+      transmit = λ body time permutation h.
+          let u = kept .transmit body time (l .commit) permutation h in
+          (record { sender = u .0; commit = refl; transmit = ap transmitNumber (u .2); len = refl }, u .1);
+      timeout = λ time h.
+          let u = kept .timeout time (l .commit) h in
+          record { sender = u .0; commit = refl; transmit = ap transmitNumber (u .1); len = ap (λ (p : Part). p .len) (u .2) };
     }
 
 -- ---- a contract
@@ -118,7 +124,7 @@ contract-refusals l =
 pub refusal-changes-nothing : RefusalChangesNothing
 refusal-changes-nothing = (node-refusals, sender-refusals, contract-refusals)
 
--- ---- instances: three of four members may not be faulty, so a node of such a configuration and a contract of such terms are no states, and calls are answered STATE
+-- ---- instances: three of four members may not be faulty, so a node or a sender of such a configuration and a contract of such terms are no states, and calls are answered STATE
 
 abbrev bad-config : Config
 bad-config = configOf 9 4 3 2 10 5000000 1000 100 1 (4 ∷ 0 ∷ 0 ∷ 0 ∷ 0 ∷ 0 ∷ 0 ∷ 0 ∷ [])
@@ -136,6 +142,17 @@ node-refused = ap numberOf (node-laws.refused-is-no-node bad-config nothingSaved
 
 node-stays : NodeStays bad-node [] [] [] (startAt bad-node 5 [] 0 [] [])
 node-stays = node-refusals bad-node [] 0 [] [] .start 5 (ap done node-refused)
+
+abbrev bad-sender : LentSender
+bad-sender =
+    record { sender = freshSender bad-config; commit = no-commit; outcome = record { milliseconds = 0; start = 0; len = 0; transmit = 0; answer = 0 } }
+
+sender-refused : timeoutAt bad-sender 5 [] .outcome .answer ≡ 2
+unfolding timeoutAt goodConfig goodFeed noneEmpty sum numberOf
+sender-refused = ap numberOf (sender-laws.refused-is-no-sender bad-config [] refl .timeout 5 no-commit)
+
+sender-stays : SenderStays bad-sender (timeoutAt bad-sender 5 [])
+sender-stays = sender-refusals bad-sender [] .timeout 5 (ap done sender-refused)
 
 abbrev bad-terms : Terms
 bad-terms = record { «observation_fee» = 2; «sending_fee» = 3; n = 4; f = 3 }

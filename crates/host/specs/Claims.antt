@@ -11,7 +11,7 @@ use Rattle.host.specs.declared.LentContract.{LentContract}
 use Rattle.host.specs.Lent.{LentOut}
 use Rattle.host.specs.Calls.{restoreAt, startAt, deliverAt, timerAt, senderFreshAt, transmitAt, timeoutAt, contractFreshAt, submitAt, depositAt, withdrawAt}
 
--- ---- "Only code 0 changes anything": a refused call leaves the state, what the host has read, and every byte of a lent buffer; it writes the outcome, which asks nothing of the host
+-- ---- "Only code 0 changes anything": a refused call leaves the state, what the host has read, and every byte of a lent buffer; it writes the outcome, and a node's or a sender's asks nothing of the host
 
 -- whether the code is 0
 abbrev pub done : ℕ → Bool
@@ -41,10 +41,17 @@ pub record NodeRefusals (l : LentNode) (outbox : List ℕ) (at : ℕ) (kept sign
   pub deliver : (link time bits : ℕ) (frame : List ℕ) → let o = deliverAt l link time bits frame outbox at kept signatures in done (o .lent .outcome .answer) ≡ false → NodeStays l outbox kept signatures o
   pub timer : (number time : ℕ) → let o = timerAt l number time outbox at kept signatures in done (o .lent .outcome .answer) ≡ false → NodeStays l outbox kept signatures o
 
+-- the sender and the commit stay, T_transmit is left alone, the part handed out is empty
+pub record SenderStays (l m : LentSender) : Type 0 where
+  pub sender : m .sender ≡ l .sender
+  pub commit : m .commit ≡ l .commit
+  pub transmit : m .outcome .transmit ≡ 0
+  pub len : m .outcome .len ≡ 0
+
 pub record SenderRefusals (l : LentSender) (slots : List ℕ) : Type 0 where
-  pub fresh : done (senderFreshAt l .outcome .answer) ≡ false → (senderFreshAt l .sender ≡ l .sender) × (senderFreshAt l .commit ≡ l .commit)
-  pub transmit : (body : List ℕ) (time : ℕ) (permutation : List ℕ) → let o = transmitAt l body time permutation slots in done (o .lent .outcome .answer) ≡ false → (o .lent .sender ≡ l .sender) × (o .lent .commit ≡ l .commit) × (o .slots ≡ slots)
-  pub timeout : (time : ℕ) → let o = timeoutAt l time slots in done (o .outcome .answer) ≡ false → (o .sender ≡ l .sender) × (o .commit ≡ l .commit)
+  pub fresh : done (senderFreshAt l .outcome .answer) ≡ false → SenderStays l (senderFreshAt l)
+  pub transmit : (body : List ℕ) (time : ℕ) (permutation : List ℕ) → let o = transmitAt l body time permutation slots in done (o .lent .outcome .answer) ≡ false → SenderStays l (o .lent) × (o .slots ≡ slots)
+  pub timeout : (time : ℕ) → let o = timeoutAt l time slots in done (o .outcome .answer) ≡ false → SenderStays l o
 
 pub record ContractRefusals (l : LentContract) : Type 0 where
   pub fresh : done (contractFreshAt l .outcome .answer) ≡ false → contractFreshAt l .contract ≡ l .contract
