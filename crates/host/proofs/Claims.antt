@@ -35,7 +35,7 @@ use Rattle.host.specs.declared.LentContract.{LentContract}
 use Rattle.host.specs.Numbers.{timerNumber, transmitNumber}
 use Rattle.host.specs.Lent.{plainOutcome, afterOut, payingOutcome, withContract}
 use Rattle.host.specs.Calls.{restoreAt, startAt, deliverAt, timerCall, timerAt, senderFreshAt, transmitAt, timeoutAt, contractFreshAt, submitAt, depositAt, withdrawAt}
-use Rattle.host.specs.Claims.{done, NodeStays, NodeRefusals, SenderStays, SenderRefusals, ContractRefusals, RefusalChangesNothing}
+use Rattle.host.specs.Claims.{done, NodeStays, NodeRefusals, SenderStays, SenderRefusals, ContractStays, ContractRefusals, RefusalChangesNothing}
 
 -- ---- a node
 
@@ -115,10 +115,10 @@ unfolding contractFreshAt submitAt depositAt withdrawAt
 contract-refusals l =
     let kept = contract-laws.refusal-changes-nothing (l .contract) in
     record {
-      fresh = λ h. rw h;
-      submit = λ body transmitter time bits h. kept .submit body transmitter time bits h;
-      deposit = λ amount h. kept .deposit amount h;
-      withdraw = λ member h. kept .withdraw member h;
+      fresh = λ h. record { contract = rw h; amount = refl };
+      submit = λ body transmitter time bits h. record { contract = kept .submit body transmitter time bits h; amount = refl };
+      deposit = λ amount h. record { contract = kept .deposit amount h; amount = refl };
+      withdraw = λ member h. let u = kept .withdraw member h in record { contract = u .0; amount = u .1 };
     }
 
 pub refusal-changes-nothing : RefusalChangesNothing
@@ -164,5 +164,5 @@ refused-badly : depositAt lent-badly 5 .outcome .answer ≡ 2
 unfolding depositAt depositedOf goodTerms numberOf
 refused-badly = ap numberOf (contract-laws.refused-is-no-contract bad-terms (deposits 5) refl)
 
-stays-badly : depositAt lent-badly 5 .contract ≡ freshContract bad-terms
+stays-badly : ContractStays lent-badly (depositAt lent-badly 5)
 stays-badly = contract-refusals lent-badly .deposit 5 (ap done refused-badly)

@@ -11,7 +11,7 @@ use Rattle.host.specs.declared.LentContract.{LentContract}
 use Rattle.host.specs.Lent.{LentOut}
 use Rattle.host.specs.Calls.{restoreAt, startAt, deliverAt, timerAt, senderFreshAt, transmitAt, timeoutAt, contractFreshAt, submitAt, depositAt, withdrawAt}
 
--- ---- "Only code 0 changes anything": a refused call leaves the state, what the host has read, and every byte of a lent buffer; it writes the outcome, and a node's or a sender's asks nothing of the host
+-- ---- "Only code 0 changes anything": a refused call leaves the state, what the host has read, and every byte of a lent buffer; it writes the outcome, which asks nothing of the host
 
 -- whether the code is 0
 abbrev pub done : ℕ → Bool
@@ -53,11 +53,16 @@ pub record SenderRefusals (l : LentSender) (slots : List ℕ) : Type 0 where
   pub transmit : (body : List ℕ) (time : ℕ) (permutation : List ℕ) → let o = transmitAt l body time permutation slots in done (o .lent .outcome .answer) ≡ false → SenderStays l (o .lent) × (o .slots ≡ slots)
   pub timeout : (time : ℕ) → let o = timeoutAt l time slots in done (o .outcome .answer) ≡ false → SenderStays l o
 
+-- the contract stays, nothing is paid
+pub record ContractStays (l m : LentContract) : Type 0 where
+  pub contract : m .contract ≡ l .contract
+  pub amount : m .outcome .amount ≡ 0
+
 pub record ContractRefusals (l : LentContract) : Type 0 where
-  pub fresh : done (contractFreshAt l .outcome .answer) ≡ false → contractFreshAt l .contract ≡ l .contract
-  pub submit : (body : List ℕ) (transmitter time bits : ℕ) → done (submitAt l body transmitter time bits .outcome .answer) ≡ false → submitAt l body transmitter time bits .contract ≡ l .contract
-  pub deposit : (amount : ℕ) → done (depositAt l amount .outcome .answer) ≡ false → depositAt l amount .contract ≡ l .contract
-  pub withdraw : (member : ℕ) → done (withdrawAt l member .outcome .answer) ≡ false → (withdrawAt l member .contract ≡ l .contract) × (withdrawAt l member .outcome .amount ≡ 0)
+  pub fresh : done (contractFreshAt l .outcome .answer) ≡ false → ContractStays l (contractFreshAt l)
+  pub submit : (body : List ℕ) (transmitter time bits : ℕ) → let m = submitAt l body transmitter time bits in done (m .outcome .answer) ≡ false → ContractStays l m
+  pub deposit : (amount : ℕ) → let m = depositAt l amount in done (m .outcome .answer) ≡ false → ContractStays l m
+  pub withdraw : (member : ℕ) → let m = withdrawAt l member in done (m .outcome .answer) ≡ false → ContractStays l m
 
 abbrev pub RefusalChangesNothing : Type 0
 RefusalChangesNothing =
