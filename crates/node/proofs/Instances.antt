@@ -45,15 +45,16 @@ use Rattle.leader.specs.Listed.{markedUpTo, order}
 use Rattle.leader.specs.Rules.{nextRound, observing, observeSigned, closing}
 use Rattle.node.specs.declared.Node.{Node}
 use Rattle.node.specs.declared.Fired.the-variants as fired
+use Rattle.node.specs.declared.Outcome.{Outcome}
 use Rattle.node.specs.State.{restoredNode, nothingSaved, goodNode, goodKept, goodState, roomy}
 use Rattle.node.specs.Event.{Whole, whole, Delivery, delivery, Event, starts, delivers, fires, done}
-use Rattle.node.specs.Answers.{startAnswer, firing, ending, timerAnswer, followerAnswer, leaderAnswer, messageAnswer, deliveryAnswer, afterState, answerTo}
+use Rattle.node.specs.Answers.{startAnswer, firing, ending, timerAnswer, unarmedAnswer, followerAnswer, leaderAnswer, messageAnswer, deliveryAnswer, afterState, answerTo}
 use Rattle.node.specs.Effects.{pacing, begun, moving, hearing, following, leading, effectOf}
-use Rattle.node.specs.Calls.{restoreAnswer, step, framesOf, settled, called, unarmedOf}
+use Rattle.node.specs.Calls.{restoreAnswer, step, out, framesOf, refusing, settled, called, unarmedOf}
 use Rattle.node.specs.Runs.{after, run}
 use Rattle.node.specs.Typed.{TypedWhole, TypedDelivery, TypedEvents}
 use Rattle.node.specs.Claims.{Unchanged, Sized, listed, FewSent, AnswersRequest, AnswersList, Armed}
-use Rattle.node.proofs.Steps.{refusal-changes-nothing, refused-is-no-node, made-is-good, new-epoch-is-taken, call-is-the-step}
+use Rattle.node.proofs.Steps.{refusal-changes-nothing, refused-is-no-node, made-is-good, new-epoch-is-taken, call-is-the-step, one-result}
 use Rattle.node.proofs.Listed.{unarmed-changes-nothing, answers-are-listed}
 use Rattle.node.proofs.Sent.{new-epoch-goes-first, signs-only-what-it-answers}
 use Rattle.node.proofs.Written.{sent-is-read, frames-stand}
@@ -321,3 +322,9 @@ unarmed-listed = answers-are-listed moved (fires fired.Grace 0) outbox 0 (member
 none-of-four : called moved (fires fired.Grace 0) outbox 0 ≡ unarmedOf (moved .node) 0 outbox 0 (moved .kept) (moved .signatures)
 unfolding firing
 none-of-four = unarmed-changes-nothing moved 0 outbox 0 .same fired.Grace refl
+
+-- its promise allows IGNORED, with every buffer as it was, and nothing else
+none-of-four-once : (r : Outcome) (o k g : List ℕ) → out r o k g ≡ unarmedOf (moved .node) 0 outbox 0 (moved .kept) (moved .signatures) → (r ≡ refusing answer.Ignored (moved .node)) × (o ≡ outbox) × (k ≡ moved .kept) × (g ≡ moved .signatures)
+unfolding unarmedAnswer afterState goodState goodNode goodConfig goodFeed noneEmpty sum goodPace goodFollower goodLeader flags goodKept roomy
+none-of-four-once r o k g h =
+    one-result moved (fires fired.Grace 0) 0 outbox 0 (member 2) nothingSaved .unarmed r (refusing answer.Ignored (moved .node)) o outbox k (moved .kept) g (moved .signatures) h refl

@@ -26,8 +26,8 @@ use Rattle.node.specs.State.{restoredNode, goodNode, goodKept, goodState
 use Rattle.node.specs.Event.{Whole, whole, Event, delivers, Effect, refused, done}
 use Rattle.node.specs.Answers.{messageAnswer, deliveryAnswer, afterState, answerTo}
 use Rattle.node.specs.Effects.{effectOf}
-use Rattle.node.specs.Calls.{restoreAnswer, step, Out, out, refusing, settled, inRoom, called}
-use Rattle.node.specs.Claims.{RefusalChangesNothing, RefusedIsNoNode, MadeIsGood, NewEpochIsTaken, CallIsTheStep, OneResult}
+use Rattle.node.specs.Calls.{restoreAnswer, step, Out, out, refusing, settled, inRoom, called, unarmedOf}
+use Rattle.node.specs.Claims.{RefusalChangesNothing, RefusedIsNoNode, MadeIsGood, NewEpochIsTaken, CallIsTheStep, OneOut, OneResult}
 
 -- ---- a state in range
 
@@ -124,8 +124,19 @@ call-is-the-step w e outbox at =
       no-room = λ room. called-answer w e outbox at ∙ rw room (no-room (goodState (w .node) (w .kept)));
     }
 
+one-out : (x : Out) → OneOut x
+one-out x r r′ o o′ k k′ g g′ h h′ =
+    let same = h ∙ sym h′ in
+    (ap (λ (y : Out). y .result) same, ap (λ (y : Out). y .outbox) same, ap (λ (y : Out). y .kept) same, ap (λ (y : Out). y .signatures) same)
+
 pub one-result : OneResult
-one-result w e outbox at c s = record { call = λ r r′ h h′. h ∙ sym h′; fresh = λ r r′ h h′. h ∙ sym h′; restore = λ r r′ h h′. h ∙ sym h′ }
+one-result w e time outbox at c s =
+    record {
+      call = one-out (called w e outbox at);
+      unarmed = one-out (unarmedOf (w .node) time outbox at (w .kept) (w .signatures));
+      fresh = λ r r′ h h′. h ∙ sym h′;
+      restore = λ r r′ h h′. h ∙ sym h′;
+    }
 
 -- ---- NEWEPOCH
 

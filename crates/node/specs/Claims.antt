@@ -35,6 +35,7 @@ use Rattle.follower.specs.Claims.{Carries}
 use Rattle.node.specs.declared.Fired.{Fired}
 use Rattle.node.specs.declared.Fired.the-variants as fired
 use Rattle.node.specs.declared.Made.{Made}
+use Rattle.node.specs.declared.Outcome.{Outcome}
 use Rattle.node.specs.State.{restoredNode, epochOf, goodState}
 use Rattle.node.specs.Event.{Whole, whole, Delivery, Event, starts, delivers, fires, Effect, refused, done}
 use Rattle.node.specs.Answers.{firing}
@@ -107,14 +108,19 @@ pub record Unarmed (w : Whole) (time : ℕ) (outbox : List ℕ) (at : ℕ) (r : 
 abbrev pub UnarmedChangesNothing : Type 0
 UnarmedChangesNothing = (w : Whole) (time : ℕ) (outbox : List ℕ) (at : ℕ) → Unarmed w time outbox at (unarmedOf (w .node) time outbox at (w .kept) (w .signatures))
 
--- What one promise allows is one result.
-pub record OneEach (w : Whole) (e : Event) (outbox : List ℕ) (at : ℕ) (c : Config) (s : Saved) : Type 0 where
-  pub call : (r r′ : Out) → r ≡ called w e outbox at → r′ ≡ called w e outbox at → r ≡ r′
+-- What one promise allows is one result, and one content of each lent buffer.
+abbrev pub OneOut : Out → Type 0
+OneOut x =
+    (r r′ : Outcome) (o o′ k k′ g g′ : List ℕ) → out r o k g ≡ x → out r′ o′ k′ g′ ≡ x → (r ≡ r′) × (o ≡ o′) × (k ≡ k′) × (g ≡ g′)
+
+pub record OneEach (w : Whole) (e : Event) (time : ℕ) (outbox : List ℕ) (at : ℕ) (c : Config) (s : Saved) : Type 0 where
+  pub call : OneOut (called w e outbox at)
+  pub unarmed : OneOut (unarmedOf (w .node) time outbox at (w .kept) (w .signatures))
   pub fresh : (r r′ : Made) → r ≡ freshOf c → r′ ≡ freshOf c → r ≡ r′
   pub restore : (r r′ : Made) → r ≡ restoreOf c s → r′ ≡ restoreOf c s → r ≡ r′
 
 abbrev pub OneResult : Type 0
-OneResult = (w : Whole) (e : Event) (outbox : List ℕ) (at : ℕ) (c : Config) (s : Saved) → OneEach w e outbox at c s
+OneResult = (w : Whole) (e : Event) (time : ℕ) (outbox : List ℕ) (at : ℕ) (c : Config) (s : Saved) → OneEach w e time outbox at c s
 
 -- The configuration never changes.
 abbrev pub ConfigurationStays : Type 0
