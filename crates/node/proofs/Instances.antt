@@ -16,7 +16,7 @@ use Rattle.config.specs.declared.Commit.{Commit}
 use Rattle.config.specs.declared.Config.{Config}
 use Rattle.config.specs.declared.Saved.{Saved}
 use Rattle.config.proofs.Facts.{and-true}
-use Rattle.wire.specs.Numbers.{Bytes, part, beFrom, beNumber, beBytes}
+use Rattle.wire.specs.Numbers.{Bytes, beFrom, beNumber, beBytes}
 use Rattle.wire.specs.Overlay.{over}
 use Rattle.wire.proofs.Numbers.{bytes-cons, bytes-replicate}
 use Rattle.wire.proofs.Overlay.{length-over, over-eq}
@@ -50,10 +50,10 @@ use Rattle.node.specs.State.{restoredNode, nothingSaved, goodNode, goodK
 use Rattle.node.specs.Event.{Whole, whole, Delivery, delivery, Event, starts, delivers, fires, done}
 use Rattle.node.specs.Answers.{startAnswer, firing, ending, timerAnswer, unarmedAnswer, followerAnswer, leaderAnswer, messageAnswer, deliveryAnswer, afterState, answerTo}
 use Rattle.node.specs.Effects.{pacing, begun, moving, hearing, following, leading, effectOf}
-use Rattle.node.specs.Calls.{restoreAnswer, step, out, framesOf, refusing, settled, called, unarmedOf}
+use Rattle.node.specs.Calls.{restoreAnswer, step, out, refusing, settled, called, unarmedOf}
 use Rattle.node.specs.Runs.{after, run}
 use Rattle.node.specs.Typed.{TypedWhole, TypedDelivery, TypedEvents}
-use Rattle.node.specs.Claims.{Unchanged, Sized, listed, FewSent, AnswersRequest, AnswersList, Armed}
+use Rattle.node.specs.Claims.{Unchanged, Sized, listed, StandIn, FewSent, AnswersRequest, AnswersList, Armed}
 use Rattle.node.proofs.Steps.{refusal-changes-nothing, refused-is-no-node, made-is-good, new-epoch-is-taken, call-is-the-step, one-result}
 use Rattle.node.proofs.Listed.{unarmed-changes-nothing, answers-are-listed}
 use Rattle.node.proofs.Sent.{new-epoch-goes-first, signs-only-what-it-answers}
@@ -231,6 +231,10 @@ early = delivers (says 1 (newEpoch 1))
 abbrev pub outbox : List ℕ
 outbox = zeros outboxSize
 
+-- and one with three bytes before the position
+abbrev pub longer : List ℕ
+longer = zeros (3 + outboxSize)
+
 early-changes-nothing : Unchanged fresh outbox (called fresh early outbox 0)
 unfolding called afterState goodState goodNode goodConfig goodFeed noneEmpty sum goodPace goodFollower goodLeader flags goodKept roomy deliveryAnswer messageAnswer frameAnswer afterShort afterVersion afterKind afterSender bodyAnswer bodyLength messageOf frameBytes bodyBytes trailerBytes beBytes beNumber beFrom numberOf
 early-changes-nothing = refusal-changes-nothing fresh early outbox 0 refl
@@ -264,7 +268,7 @@ moved-good =
 third-armed : Armed nearly (delivers third) (effectOf nearly (delivers third))
 third-armed = flags-are-the-timers nearly (delivers third) (effectOf nearly (delivers third)) third-done
 
--- of its two frames the NEWEPOCH goes first; both are read back, and stand in the outbox
+-- of its two frames the NEWEPOCH goes first; both are read back, and stand in the outbox, with the bytes around them as they were
 third-in-order : FewSent (newEpoch 5 ∷ observeReq 1 1 ∷ [])
 third-in-order = rw third-sends at (new-epoch-goes-first nearly (delivers third) (effectOf nearly (delivers third)) third-done)
 
@@ -276,11 +280,10 @@ third-is-read =
     let all = rw third-sends at (sent-is-read nearly (delivers third) (effectOf nearly (delivers third)) nearly-typed (sized (nearly .node)) third-typed third-done) in
     (all .0, all .1 .0)
 
-third-stands : part (called nearly (delivers third) outbox 0 .outbox) 0 (called nearly (delivers third) outbox 0 .result .written) ≡ framesOf (member 2) (newEpoch 5 ∷ observeReq 1 1 ∷ [])
+third-stands : StandIn (member 2) (newEpoch 5 ∷ observeReq 1 1 ∷ []) longer 3 (called nearly (delivers third) longer 3)
 unfolding roomy
 third-stands =
-    frames-stand nearly (delivers third) (effectOf nearly (delivers third)) outbox 0 nearly-typed third-typed refl third-done
-    ∙ ap (framesOf (member 2)) third-sends
+    rw third-sends at (frames-stand nearly (delivers third) (effectOf nearly (delivers third)) longer 3 nearly-typed third-typed refl third-done)
 
 -- the OBSERVE answers the request, with the host's observation
 request-signed : AnswersRequest request 1 1 (pos 105) ownSignature

@@ -57,7 +57,7 @@ use Rattle.node.proofs.Kept.{kept-was-checked}
 use Rattle.node.proofs.Handed.{handed-was-checked, handed-once-a-round}
 use Rattle.node.proofs.Order.{after-any-list, epoch-order-decides-nothing, observation-order-decides-nothing}
 use Rattle.node.proofs.Calls.{calls-run, callsIn, call-in-room, calls-in-room, epoch-calls-decide-nothing, observation-calls-decide-nothing}
-use Rattle.node.proofs.Instances.{member, says, zeros, lent, waiting, fresh, nearly, in-epoch, moved, starting, two-heard, third, zeros-again, moving-on, observes, graced, three-observed, passed, grace-done, asked, grace-asks, bytes, typed-says, moved-typed, graced-typed, outbox, fresh-good, sized, graced-sized}
+use Rattle.node.proofs.Instances.{member, says, zeros, lent, waiting, fresh, nearly, in-epoch, moved, starting, two-heard, third, zeros-again, moving-on, observes, graced, three-observed, passed, grace-done, asked, grace-asks, bytes, typed-says, moved-typed, graced-typed, outbox, longer, fresh-good, sized, graced-sized}
 
 -- ---- a beginning
 
@@ -118,9 +118,6 @@ mixed-epoch : 1 ≡ max 0 (reached 2 (1 ∷ 0 ∷ 5 ∷ 5 ∷ []))
 mixed-epoch = mixed-closed .epoch
 
 -- whole calls: the first list's frames go to the start of an outbox, the second's behind three bytes of another
-abbrev longer : List ℕ
-longer = zeros (3 + outboxSize)
-
 mixed-calls : (callAll started (callsIn outbox 0 one-by-one) ≡ callAll started (callsIn longer 3 mixed)) × ClosedForm started one-by-one (callAll started (callsIn outbox 0 one-by-one))
 mixed-calls =
     let z = sized (started .node) in
@@ -185,7 +182,7 @@ written r at = part (r .outbox) at (r .result .written)
 graced-written : written (graceAt graced 0 outbox 0) 0 ≡ framesOf (member 2) (asked ∷ [])
 unfolding roomy
 graced-written =
-    frames-stand graced (fires fired.Grace 0) (effectOf graced (fires fired.Grace 0)) outbox 0 graced-typed tt (simp length-over refl) grace-done
+    frames-stand graced (fires fired.Grace 0) (effectOf graced (fires fired.Grace 0)) outbox 0 graced-typed tt (simp length-over refl) grace-done .frames
     ∙ ap (framesOf (member 2)) grace-asks
 
 another-written : written (graceAt (callAll moved another-calls) 0 longer 3) 3 ≡ framesOf (member 2) (asked ∷ [])

@@ -16,7 +16,7 @@ use Rattle.config.specs.declared.Config.{Config}
 use Rattle.config.proofs.Facts.{and-true, good-facts}
 use Rattle.wire.specs.Numbers.{Bytes, part, beBytes}
 use Rattle.wire.proofs.Numbers.{bytes-drop, bytes-over}
-use Rattle.wire.proofs.Overlay.{length-over, part-over}
+use Rattle.wire.proofs.Overlay.{length-over, part-over, take-over, drop-over}
 use Rattle.quorum.specs.First.{bit}
 use Rattle.quorum.proofs.Cases.{cases, test}
 use Rattle.quorum.proofs.Marks.{marks-le-length}
@@ -59,7 +59,7 @@ use Rattle.node.specs.Effects.{announced, asking-for, answering, replyin
 use Rattle.node.specs.Calls.{framesOf, settled}
 use Rattle.node.specs.Typed.{TypedWhole, TypedEvent}
 use Rattle.node.specs.Answers.{pastLast}
-use Rattle.node.specs.Claims.{Sized, SentIsRead, FramesStand, FewSent}
+use Rattle.node.specs.Claims.{Sized, SentIsRead, StandIn, FramesStand, FewSent}
 use Rattle.node.proofs.Checks.{NodeGood, node-facts}
 use Rattle.node.proofs.Ready.{room-facts}
 use Rattle.node.proofs.Steps.{good-node, call-is-the-step}
@@ -382,10 +382,16 @@ module _ (c : Config) where
       omega (arith, length-append (ownFrame c m) (ownFrame c k ++ []), length-append (ownFrame c k) [], length-own m, length-own k)
   all-fit (m ∷ k ∷ l ∷ ms) few s w = absurd s
 
--- what is laid over a buffer with room for it stands there
-stands-there : (f : Effect) (c : Config) (outbox : List ℕ) (at : ℕ) → f .whole-after .node .config ≡ c → at + length (framesOf c (f .sent)) ≤ length outbox → part (settled f outbox at .outbox) at (settled f outbox at .result .written) ≡ framesOf c (f .sent)
+-- what is laid over a buffer with room for it stands there, and the rest of the buffer is as it was
+stands-there : (f : Effect) (c : Config) (outbox : List ℕ) (at : ℕ) → f .whole-after .node .config ≡ c → at + length (framesOf c (f .sent)) ≤ length outbox → StandIn c (f .sent) outbox at (settled f outbox at)
 unfolding settled
-stands-there f c outbox at e h = rw e (part-over outbox at (framesOf c (f .sent)) h)
+stands-there f c outbox at e h =
+    let frames = framesOf c (f .sent) in
+    record {
+      frames = rw e (part-over outbox at frames h);
+      before = rw e (take-over outbox at frames);
+      behind = rw e (drop-over outbox at frames);
+    }
 
 pub frames-stand : FramesStand
 frames-stand w e f outbox at t k room h =

@@ -6,7 +6,7 @@ use mathlib.Core.List.{List, [], _∷_, map}
 use Prim.Native.Nat.{ℕ, _+_, _-_, _*_, _≤_, max}
 use lib.Dec.{eqb}
 use lib.IntN.{ℤ}
-use lib.ListN.{length, getD}
+use lib.ListN.{length, getD, take, drop}
 use Rattle.config.specs.Limits.{keptSize, signaturesSize}
 use Rattle.config.specs.Bounds.{goodTime, goodCommit}
 use Rattle.config.specs.Codes.{numberOf, isDone}
@@ -138,10 +138,15 @@ abbrev pub SentIsRead : Type 0
 SentIsRead =
     (w : Whole) (e : Event) (f : Effect) → TypedWhole w → Sized w → TypedEvent e → step w e ≡ done f → Each (λ m. ReadAs (ownFrame (w .node .config) m) (w .node .config .n) (w .node .config .number) (w .node .config .own) m) (f .sent)
 
--- And the frames of what is sent have room in the outbox: so they stand there from the position on, whole.
+-- And the frames of what is sent have room in the outbox: so they stand there from the position on, whole, and every byte before the position and behind them is as it was.
+pub record StandIn (c : Config) (sent : List Message) (outbox : List ℕ) (at : ℕ) (r : Out) : Type 0 where
+  pub frames : part (r .outbox) at (r .result .written) ≡ framesOf c sent
+  pub before : take at (r .outbox) ≡ take at outbox
+  pub behind : drop (at + r .result .written) (r .outbox) ≡ drop (at + r .result .written) outbox
+
 abbrev pub FramesStand : Type 0
 FramesStand =
-    (w : Whole) (e : Event) (f : Effect) (outbox : List ℕ) (at : ℕ) → TypedWhole w → TypedEvent e → inRoom w outbox at ≡ true → step w e ≡ done f → part (called w e outbox at .outbox) at (called w e outbox at .result .written) ≡ framesOf (w .node .config) (f .sent)
+    (w : Whole) (e : Event) (f : Effect) (outbox : List ℕ) (at : ℕ) → TypedWhole w → TypedEvent e → inRoom w outbox at ≡ true → step w e ≡ done f → StandIn (w .node .config) (f .sent) outbox at (called w e outbox at)
 
 -- At most two frames are sent, and of two the first is a NEWEPOCH, the second a request for observations.
 abbrev pub FewSent : List Message → Type 0
