@@ -1,6 +1,6 @@
--- Lists of whole calls, none refused: each is the step of its event, so what is shown of steps holds of calls, and what T_grace writes stands in the outbox.
+-- What a call leaves. And lists of whole calls, none refused: each is the step of its event, so what is shown of steps holds of calls, and what T_grace writes stands in the outbox.
 use mathlib.Core.Path.{_≡_, refl, sym, ap, _∙_, subst}
-use mathlib.Core.Bool.{true}
+use mathlib.Core.Bool.{true, false, false≢true}
 use mathlib.Core.List.{List, [], _∷_, map}
 use Prim.Native.Nat.{ℕ, _+_, _≤_}
 use native.Mathlib.Omega.{arith}
@@ -11,6 +11,7 @@ use Rattle.config.specs.Codes.{numberOf, isDone}
 use Rattle.config.proofs.Facts.{good-facts}
 use Rattle.wire.specs.Numbers.{part, beBytes}
 use Rattle.wire.proofs.Overlay.{length-over, part-over}
+use Rattle.quorum.proofs.Cases.{test-false}
 use Rattle.frame.specs.Table.{shapeOf, bodyLength}
 use Rattle.frame.specs.Encode.{signedBytes, headBytes, countedBytes, bodyBytes}
 use Rattle.outbox.specs.Written.{ownFrame, signedObservations}
@@ -23,16 +24,16 @@ use Rattle.leader.specs.Rules.{closing}
 use Rattle.leader.proofs.Marked.{order-members}
 use Rattle.node.specs.declared.Fired.the-variants as fired
 use Rattle.node.specs.State.{epochOf, roomy}
-use Rattle.node.specs.Event.{Whole, Delivery, Event, delivers, fires, Effect, done}
+use Rattle.node.specs.Event.{Whole, Delivery, Event, delivers, fires, Effect, Step, refused, done}
 use Rattle.node.specs.Answers.{eventAnswer, answerTo}
 use Rattle.node.specs.Effects.{pacing, moving, following, leading, timing, effectOf}
 use Rattle.node.specs.Calls.{step, Out, framesOf, settled, inRoom, called}
 use Rattle.node.specs.Runs.{settledIn, after, run, deliveries, Done, AllOf, Call, givenBy, left, answered, callAll, AllDone}
-use Rattle.node.specs.Claims.{Sized, ClosedForm, EpochCallsDecideNothing, graceAt, ObservationCallsDecideNothing}
+use Rattle.node.specs.Claims.{Sized, CallLeavesTheStep, ClosedForm, EpochCallsDecideNothing, graceAt, ObservationCallsDecideNothing}
 use Rattle.node.proofs.Checks.{state-passed, state-config}
 use Rattle.node.proofs.Ready.{room-facts}
 use Rattle.node.proofs.Frames.{asking-fits}
-use Rattle.node.proofs.Steps.{called-answer, call-is-the-step}
+use Rattle.node.proofs.Steps.{called-refused, called-answer, call-is-the-step}
 use Rattle.node.proofs.Ruled.{Ruled, by-start, by-resend, by-progress, by-round, by-grace, by-hearing, by-moving, by-following, by-observe, by-report, kept-by-steps}
 use Rattle.node.proofs.Turns.{done-step}
 use Rattle.node.proofs.Kept.{length-kept}
@@ -41,6 +42,27 @@ use Rattle.node.proofs.Order.{after-any-list, epoch-order-decides-nothi
 
 -- ---- one call
 
+module _ (w : Whole) (e : Event) (outbox : List ℕ) (at : ℕ) where
+  left-in-room : inRoom w outbox at ≡ true → left (called w e outbox at) ≡ after w e
+  unfolding settled
+  left-in-room room = go (step w e) refl
+    where
+      go : (s : Step) → step w e ≡ s → left (called w e outbox at) ≡ settledIn w s
+      go (refused a) h = ap left (call-is-the-step w e outbox at .refusal a room h)
+      go (done f) h = ap left (call-is-the-step w e outbox at .rule f room h)
+
+  refused-no-room : inRoom w outbox at ≡ false → isDone (answerTo (inRoom w outbox at) w e) ≡ false
+  refused-no-room room =
+      test-false _ (λ h. false≢true (sym room ∙ state-passed (inRoom w outbox at) (w .node) (w .kept) (eventAnswer (w .node) e) h .roomy))
+
+pub call-leaves-the-step : CallLeavesTheStep
+call-leaves-the-step w e outbox at =
+    record {
+      in-room = left-in-room w e outbox at;
+      no-room = λ room. ap left (called-refused w e outbox at (refused-no-room w e outbox at room));
+    }
+
+-- one that is done
 module _ (w : Whole) (e : Event) (outbox : List ℕ) (at : ℕ) (h : isDone (called w e outbox at .result .answer) ≡ true) where
   call-done : isDone (answerTo (inRoom w outbox at) w e) ≡ true
   call-done = ap isDone (sym (called-answer w e outbox at)) ∙ h
@@ -56,8 +78,7 @@ module _ (w : Whole) (e : Event) (outbox : List ℕ) (at : ℕ) (h : isDone (cal
   call-settled = call-is-the-step w e outbox at .rule (effectOf w e) call-room call-step
 
   call-left : left (called w e outbox at) ≡ after w e
-  unfolding settled
-  call-left = ap left call-settled ∙ sym (ap (settledIn w) call-step)
+  call-left = left-in-room w e outbox at call-room
 
 -- ---- a list
 

@@ -51,7 +51,7 @@ use Rattle.node.specs.Event.{Whole, whole, Delivery, delivery, Event, st
 use Rattle.node.specs.Answers.{startAnswer, firing, ending, timerAnswer, unarmedAnswer, followerAnswer, leaderAnswer, messageAnswer, deliveryAnswer, afterState, answerTo}
 use Rattle.node.specs.Effects.{pacing, begun, moving, hearing, following, leading, effectOf}
 use Rattle.node.specs.Calls.{restoreAnswer, step, out, refusing, settled, called, unarmedOf}
-use Rattle.node.specs.Runs.{after, run}
+use Rattle.node.specs.Runs.{after, run, left}
 use Rattle.node.specs.Typed.{TypedWhole, TypedDelivery, TypedEvents}
 use Rattle.node.specs.Claims.{Unchanged, Sized, listed, StandIn, FewSent, AnswersRequest, AnswersList, Armed}
 use Rattle.node.proofs.Steps.{refusal-changes-nothing, refused-is-no-node, made-is-good, new-epoch-is-taken, call-is-the-step, one-result}
@@ -61,6 +61,7 @@ use Rattle.node.proofs.Written.{sent-is-read, frames-stand}
 use Rattle.node.proofs.Closed.{good-stays-good}
 use Rattle.node.proofs.Armed.{flags-are-the-timers}
 use Rattle.node.proofs.Typed.{typed-stays-typed, restored-typed}
+use Rattle.node.proofs.Calls.{call-leaves-the-step}
 
 -- ---- the members, and what they say
 
@@ -259,6 +260,15 @@ third-taken = new-epoch-is-taken nearly third outbox 0 refl refl refl refl refl 
 third-is-the-step : called nearly (delivers third) outbox 0 ≡ settled (effectOf nearly (delivers third)) outbox 0
 unfolding roomy
 third-is-the-step = call-is-the-step nearly (delivers third) outbox 0 .rule (effectOf nearly (delivers third)) refl third-done
+
+-- its call leaves the state that it moves to or, in an outbox of no byte, the one that it found
+third-leaves : left (called nearly (delivers third) outbox 0) ≡ moved
+unfolding roomy
+third-leaves = call-leaves-the-step nearly (delivers third) outbox 0 .in-room refl ∙ moving-on
+
+third-without-room : left (called nearly (delivers third) [] 0) ≡ nearly
+unfolding roomy
+third-without-room = call-leaves-the-step nearly (delivers third) [] 0 .no-room refl
 
 moved-good : goodState (moved .node) (moved .kept) ≡ true
 unfolding goodState goodNode goodConfig goodFeed noneEmpty sum goodPace goodFollower goodLeader flags goodKept

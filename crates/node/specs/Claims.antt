@@ -41,7 +41,7 @@ use Rattle.node.specs.Event.{Whole, whole, Delivery, Event, starts, deli
 use Rattle.node.specs.Answers.{firing}
 use Rattle.node.specs.Calls.{restoreAnswer, restoreOf, freshOf, step, Out, out, framesOf, noTimers, refusing, settled, inRoom, called, unarmedOf}
 use Rattle.node.specs.Typed.{TypedWhole, TypedEvent, TypedEvents}
-use Rattle.node.specs.Runs.{after, run, Begun, Reachable, sentIn, handedIn, deliveries, AllOf, highestFrom, observations, Call, givenBy, callAll, AllDone}
+use Rattle.node.specs.Runs.{after, run, Begun, Reachable, sentIn, handedIn, deliveries, AllOf, highestFrom, observations, Call, givenBy, left, callAll, AllDone}
 
 -- ---- demand 1: refusals and ranges
 
@@ -207,6 +207,14 @@ pub record IsTheStep (w : Whole) (e : Event) (outbox : List ℕ) (at : ℕ) : Ty
 
 abbrev pub CallIsTheStep : Type 0
 CallIsTheStep = (w : Whole) (e : Event) (outbox : List ℕ) (at : ℕ) → IsTheStep w e outbox at
+
+-- A call leaves what the step leaves or, without room, what it found: so what is claimed over runs holds over calls.
+pub record Leaves (w : Whole) (e : Event) (outbox : List ℕ) (at : ℕ) : Type 0 where
+  pub in-room : inRoom w outbox at ≡ true → left (called w e outbox at) ≡ after w e
+  pub no-room : inRoom w outbox at ≡ false → left (called w e outbox at) ≡ w
+
+abbrev pub CallLeavesTheStep : Type 0
+CallLeavesTheStep = (w : Whole) (e : Event) (outbox : List ℕ) (at : ℕ) → Leaves w e outbox at
 
 -- "Each call says which timers to start or stop; the state keeps only whether each is armed, and one that fires with DONE no longer is unless its rule restarts it."
 abbrev pub armed : Timer → ℕ → ℕ

@@ -44,7 +44,8 @@ pub record Begun (w : Whole) : Type 0 where
   pub kept : keptSize ≤ length (w .kept)
   pub signatures : signaturesSize ≤ length (w .signatures)
 
--- the states a node can reach: from such a beginning, by any events, refused ones among them
+-- the states a node can reach: from such a beginning, by any events, refused ones among them. The buffers that an event leaves are those of the next: a host that writes into
+-- them is outside these runs
 pub record Reachable (w : Whole) : Type 0 where
   pub first : Whole
   pub begun : Begun first
