@@ -14,7 +14,7 @@ use mir.Val.{SFits}
 use Rattle.config.specs.Limits.{members, lastEpoch, lastRound, signatureSize, reportSignatures, signaturesSize, outboxSize}
 use Rattle.config.specs.declared.Config.{Config}
 use Rattle.config.proofs.Facts.{and-true, good-facts}
-use Rattle.wire.specs.Numbers.{Bytes, part, beBytes}
+use Rattle.wire.specs.Numbers.{Bytes, beBytes}
 use Rattle.wire.proofs.Numbers.{bytes-drop, bytes-over}
 use Rattle.wire.proofs.Overlay.{length-over, part-over, take-over, drop-over}
 use Rattle.quorum.specs.First.{bit}
