@@ -1,3 +1,1 @@
-pub mod Image
-pub mod Memory
 pub mod Records

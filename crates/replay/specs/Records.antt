@@ -1,6 +1,6 @@
 -- How many bytes a record can have, and how many that of each call has before what may be of any length.
 use Prim.Native.Nat.{ℕ, _+_}
-use Rattle.replay.specs.Image.{commitSize}
+use Rattle.image.specs.Image.{commitSize}
 
 abbrev pub longestRecord : ℕ
 longestRecord = 65536

@@ -1,11 +1,11 @@
 // The calls of a contract.
-use crate::image;
+use crate::changes;
 use crate::lines;
-use crate::memory;
 use contract::Contract;
+use image::memory;
 ghost use Prim.Native.Nat.{_≤_};
 ghost use lib.ListN.{length};
-ghost use Rattle.replay.specs.Memory.{memorySize};
+ghost use Rattle.image.specs.Memory.{memorySize};
 
 // The bytes of a record of a submission before its body.
 const SUBMISSION: usize = 17;
@@ -28,7 +28,7 @@ fn settle(bytes: &mut [u8], contract: Contract)
 {
     let mut after = [0u8; image::CONTRACT];
     image::put_contract(&mut after, contract);
-    memory::settle(bytes, b'c', memory::CONTRACT_AT, &after);
+    changes::settle(bytes, b'c', memory::CONTRACT_AT, &after);
     lines::end();
 }
 

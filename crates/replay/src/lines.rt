@@ -7,8 +7,6 @@ use node::Outcome;
 use node::Timers;
 use sender::Part;
 use sender::Transmit;
-ghost use Prim.Native.Nat.{_+_, _≤_};
-ghost use lib.ListN.{length};
 
 // The start of a line: the letter of the call and its code.
 pub fn begin(letter: u8, answer: Answer) {
@@ -82,64 +80,11 @@ fn place(start: usize, len: usize) {
     decimal(len as u64);
 }
 
-fn decimal(x: u64) {
+pub fn decimal(x: u64) {
     io::print_decimal(STDOUT_FILENO, x);
 }
 
-fn say(letter: u8) {
+pub fn say(letter: u8) {
     let text = [letter];
     io::write_all(STDOUT_FILENO, &text);
-}
-
-// ---- what has changed
-
-// The runs of bytes in which what comes after differs from what stands at a place, behind the letter of the thing; nothing where there are
-// none.
-pub fn changes(letter: u8, bytes: &[u8], at: usize, after: &[u8])
-    requires { ⌜ at + length (now after) ≤ length (now bytes) ⌝ }
-{
-    let first = next(bytes, at, after, 0, false);
-    if first == after.len() {
-        return;
-    }
-    say(b' ');
-    say(letter);
-    runs(bytes, at, after, first);
-}
-
-// The runs from a changed byte on.
-fn runs(bytes: &[u8], at: usize, after: &[u8], first: usize)
-    requires { ⌜ (at + length (now after) ≤ length (now bytes)) × (first ≤ length (now after)) ⌝ }
-{
-    let mut i = first;
-    while i < after.len() {
-        let end = next(bytes, at, after, i + 1, true);
-        run(after, i, end);
-        i = next(bytes, at, after, end, false);
-    }
-}
-
-// The first byte from a place on that is the same as before, or that is not; the length where there is none.
-fn next(bytes: &[u8], at: usize, after: &[u8], from: usize, same: bool) -> usize
-    requires { ⌜ (at + length (now after) ≤ length (now bytes)) × (from ≤ length (now after)) ⌝ }
-    ensures { λ r. ⌜ (from ≤ r) × (r ≤ length (now (after .entry))) ⌝ }
-{
-    let mut i = from;
-    while i < after.len() {
-        if (bytes[at + i] == after[i]) == same {
-            return i;
-        }
-        i += 1;
-    }
-    i
-}
-
-// One run: its place, and its bytes.
-fn run(after: &[u8], first: usize, end: usize)
-    requires { ⌜ end ≤ length (now after) ⌝ }
-{
-    say(b'@');
-    decimal(first as u64);
-    say(b':');
-    show::hex(after, first, end);
 }

@@ -1,17 +1,18 @@
 // Reads a script of calls from standard input, makes them on one node, one sender and one contract, and prints a line for each;
 // docs/REPLAY.md describes records and lines.
+mod changes;
 mod contract_calls;
-mod image;
 mod lines;
-mod memory;
 mod node_calls;
+mod node_image;
 mod sender_calls;
 
+use image::memory;
+use image::memory::Lengths;
 use libc::STDIN_FILENO;
-use memory::Lengths;
 ghost use Prim.Native.Nat.{_≤_};
 ghost use lib.ListN.{length};
-ghost use Rattle.replay.specs.Memory.{memorySize, Within};
+ghost use Rattle.image.specs.Memory.{memorySize, Within};
 ghost use Rattle.replay.specs.Records.{longestRecord};
 
 // What a record came to: whether the run goes on, and how long the buffers are.

@@ -1,16 +1,17 @@
 // The calls of a node.
-use crate::image;
+use crate::changes;
 use crate::lines;
-use crate::memory;
+use crate::node_image;
 use config::Saved;
-use memory::Lengths;
+use image::memory;
+use image::memory::Lengths;
 use node::Fired;
 use node::Made;
 use node::Node;
 use node::Outcome;
 ghost use Prim.Native.Nat.{_≤_};
 ghost use lib.ListN.{length};
-ghost use Rattle.replay.specs.Memory.{memorySize, outboxRoom, keptRoom, signaturesRoom, Within};
+ghost use Rattle.image.specs.Memory.{memorySize, outboxRoom, keptRoom, signaturesRoom, Within};
 ghost use Rattle.replay.specs.Records.{startSize, deliverySize, timerSize};
 
 // The bytes of each record; of a delivery, those before its frame.
@@ -74,8 +75,8 @@ fn settle(bytes: &mut [u8], node: Node)
     requires { ⌜ memorySize ≤ length (now bytes) ⌝ }
 {
     let mut after = [0u8; image::NODE];
-    image::put_node(&mut after, node);
-    memory::settle(bytes, b'n', memory::NODE_AT, &after);
+    node_image::put_node(&mut after, node);
+    changes::settle(bytes, b'n', memory::NODE_AT, &after);
 }
 
 // A node's answer and results, and the node.
@@ -106,7 +107,7 @@ fn starting(bytes: &mut [u8], lengths: Lengths, said: &[u8], outbox: &mut [u8])
 {
     let outcome = started(&bytes[..], lengths, said, outbox);
     came(bytes, b'S', outcome);
-    memory::settle(bytes, b'o', memory::OUTBOX_AT, &outbox[..]);
+    changes::settle(bytes, b'o', memory::OUTBOX_AT, &outbox[..]);
     lines::end();
 }
 
@@ -115,7 +116,7 @@ fn started(bytes: &[u8], lengths: Lengths, said: &[u8], outbox: &mut [u8]) -> Ou
 {
     let kept = memory::KEPT_AT + lengths.kept;
     let signatures = memory::SIGNATURES_AT + lengths.signatures;
-    let node = image::node_at(bytes, memory::NODE_AT);
+    let node = node_image::node_at(bytes, memory::NODE_AT);
     node.start(
         wire::get_u64(said, 0),
         outbox,
@@ -168,9 +169,9 @@ fn delivering(
 fn settle_buffers(bytes: &mut [u8], outbox: &[u8], kept: &[u8], signatures: &[u8])
     requires { ⌜ (memorySize ≤ length (now bytes)) × (length (now outbox) ≤ outboxRoom) × (length (now kept) ≤ keptRoom) × (length (now signatures) ≤ signaturesRoom) ⌝ }
 {
-    memory::settle(bytes, b'o', memory::OUTBOX_AT, outbox);
-    memory::settle(bytes, b'k', memory::KEPT_AT, kept);
-    memory::settle(bytes, b'g', memory::SIGNATURES_AT, signatures);
+    changes::settle(bytes, b'o', memory::OUTBOX_AT, outbox);
+    changes::settle(bytes, b'k', memory::KEPT_AT, kept);
+    changes::settle(bytes, b'g', memory::SIGNATURES_AT, signatures);
 }
 
 fn delivered(
@@ -182,7 +183,7 @@ fn delivered(
 ) -> Outcome
     requires { ⌜ (memorySize ≤ length (now bytes)) × (deliverySize ≤ length (now said)) ⌝ }
 {
-    let node = image::node_at(bytes, memory::NODE_AT);
+    let node = node_image::node_at(bytes, memory::NODE_AT);
     node.deliver(
         said[0],
         wire::get_u64(said, 1),
@@ -228,7 +229,7 @@ fn unarmed(bytes: &[u8], lengths: Lengths, said: &[u8]) -> Outcome
     let outbox = memory::OUTBOX_AT + lengths.outbox;
     let kept = memory::KEPT_AT + lengths.kept;
     let signatures = memory::SIGNATURES_AT + lengths.signatures;
-    let node = image::node_at(bytes, memory::NODE_AT);
+    let node = node_image::node_at(bytes, memory::NODE_AT);
     node.unarmed(
         wire::get_u64(said, 1),
         &bytes[memory::OUTBOX_AT..outbox],
@@ -270,8 +271,8 @@ fn firing(
 {
     let outcome = timed(&bytes[..], lengths, said, fired, outbox, signatures);
     came(bytes, b'T', outcome);
-    memory::settle(bytes, b'o', memory::OUTBOX_AT, &outbox[..]);
-    memory::settle(bytes, b'g', memory::SIGNATURES_AT, &signatures[..]);
+    changes::settle(bytes, b'o', memory::OUTBOX_AT, &outbox[..]);
+    changes::settle(bytes, b'g', memory::SIGNATURES_AT, &signatures[..]);
     lines::end();
 }
 
@@ -286,7 +287,7 @@ fn timed(
     requires { ⌜ (memorySize ≤ length (now bytes)) × Within lengths × (timerSize ≤ length (now said)) ⌝ }
 {
     let end = memory::KEPT_AT + lengths.kept;
-    let node = image::node_at(bytes, memory::NODE_AT);
+    let node = node_image::node_at(bytes, memory::NODE_AT);
     node.timer(
         fired,
         wire::get_u64(said, 1),

@@ -1,14 +1,14 @@
 // The calls of a sender.
-use crate::image;
+use crate::changes;
 use crate::lines;
-use crate::memory;
-use memory::Lengths;
+use image::memory;
+use image::memory::Lengths;
 use sender::Queued;
 use sender::Released;
 use sender::Sender;
 ghost use Prim.Native.Nat.{_≤_};
 ghost use lib.ListN.{length};
-ghost use Rattle.replay.specs.Memory.{memorySize, waitingRoom, Within};
+ghost use Rattle.image.specs.Memory.{memorySize, waitingRoom, Within};
 ghost use Rattle.replay.specs.Records.{timeoutSize, transmissionSize};
 
 // The bytes of a record of a timeout, and of one of a transmission before its permutation.
@@ -46,7 +46,7 @@ fn settle(bytes: &mut [u8], sender: Sender)
 {
     let mut after = [0u8; image::SENDER];
     image::put_sender(&mut after, sender);
-    memory::settle(bytes, b's', memory::SENDER_AT, &after);
+    changes::settle(bytes, b's', memory::SENDER_AT, &after);
 }
 
 fn transmit(bytes: &mut [u8], lengths: Lengths, said: &[u8]) -> bool
@@ -79,7 +79,7 @@ fn transmitting(bytes: &mut [u8], said: &[u8], end: usize, waiting: &mut [u8])
 {
     let queued = transmitted(&bytes[..], said, end, waiting);
     came(bytes, queued);
-    memory::settle(bytes, b'w', memory::WAITING_AT, &waiting[..]);
+    changes::settle(bytes, b'w', memory::WAITING_AT, &waiting[..]);
     lines::end();
 }
 

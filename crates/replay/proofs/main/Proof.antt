@@ -1,6 +1,6 @@
 -- `main` is safe and ends: its turns count down, and each leaves lengths within the room.
 use borrow.Author.Needs.{needs}
-use Rattle.replay.specs.Memory.{Within}
+use Rattle.image.specs.Memory.{Within}
 use Rattle.replay.proofs.main.Statement.{statement}
 use Rattle.replay.proofs.main.Tie as tie
 
