@@ -78,6 +78,39 @@ pub fn resized(lengths: Lengths, letter: u8, n: usize) -> Lengths
     after
 }
 
+// Each buffer with all of its room, to be lent as long as it is.
+pub fn outbox_in(bytes: &[u8]) -> [u8; OUTBOX_ROOM]
+    requires { ⌜ memorySize ≤ length (now bytes) ⌝ }
+{
+    let mut outbox = [0u8; OUTBOX_ROOM];
+    wire::copy(&mut outbox, 0, bytes, OUTBOX_AT, OUTBOX_ROOM);
+    outbox
+}
+
+pub fn kept_in(bytes: &[u8]) -> [u8; KEPT_ROOM]
+    requires { ⌜ memorySize ≤ length (now bytes) ⌝ }
+{
+    let mut kept = [0u8; KEPT_ROOM];
+    wire::copy(&mut kept, 0, bytes, KEPT_AT, KEPT_ROOM);
+    kept
+}
+
+pub fn signatures_in(bytes: &[u8]) -> [u8; SIGNATURES_ROOM]
+    requires { ⌜ memorySize ≤ length (now bytes) ⌝ }
+{
+    let mut signatures = [0u8; SIGNATURES_ROOM];
+    wire::copy(&mut signatures, 0, bytes, SIGNATURES_AT, SIGNATURES_ROOM);
+    signatures
+}
+
+pub fn waiting_in(bytes: &[u8]) -> [u8; WAITING_ROOM]
+    requires { ⌜ memorySize ≤ length (now bytes) ⌝ }
+{
+    let mut waiting = [0u8; WAITING_ROOM];
+    wire::copy(&mut waiting, 0, bytes, WAITING_AT, WAITING_ROOM);
+    waiting
+}
+
 // Writes an image of so many bytes at its place; false where there are more bytes, or fewer.
 pub fn put(bytes: &mut [u8], at: usize, size: usize, image: &[u8]) -> bool
     requires { ⌜ at + size ≤ length (now bytes) ⌝ }

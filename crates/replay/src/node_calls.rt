@@ -2,6 +2,7 @@
 use crate::changes;
 use crate::lines;
 use crate::node_image;
+use config::Commit;
 use config::Saved;
 use image::memory;
 use image::memory::Lengths;
@@ -22,6 +23,19 @@ const START: usize = 16;
 const DELIVERY: usize = 33 + image::COMMIT;
 
 const TIMER: usize = 17;
+
+// The number of T_grace, the last of the four timers.
+const GRACE: u8 = 3;
+
+// What a record of a delivery says before its frame.
+struct Arrival {
+    link: u8,
+    time: u64,
+    observation: i64,
+    commit: Commit,
+    bits: u64,
+    at: usize,
+}
 
 // By the letter; false where the record is not as long as the letter's.
 pub fn call(bytes: &mut [u8], lengths: Lengths, letter: u8, said: &[u8]) -> bool
@@ -96,8 +110,7 @@ fn start(bytes: &mut [u8], lengths: Lengths, said: &[u8]) -> bool
         return false;
     }
     let o = lengths.outbox;
-    let mut outbox = [0u8; memory::OUTBOX_ROOM];
-    wire::copy(&mut outbox, 0, &bytes[..], memory::OUTBOX_AT, o);
+    let mut outbox = memory::outbox_in(&bytes[..]);
     starting(bytes, lengths, said, &mut outbox[..o]);
     true
 }
@@ -133,14 +146,11 @@ fn deliver(bytes: &mut [u8], lengths: Lengths, said: &[u8]) -> bool
         return false;
     }
     let o = lengths.outbox;
-    let mut outbox = [0u8; memory::OUTBOX_ROOM];
-    wire::copy(&mut outbox, 0, &bytes[..], memory::OUTBOX_AT, o);
     let k = lengths.kept;
-    let mut kept = [0u8; memory::KEPT_ROOM];
-    wire::copy(&mut kept, 0, &bytes[..], memory::KEPT_AT, k);
     let g = lengths.signatures;
-    let mut signatures = [0u8; memory::SIGNATURES_ROOM];
-    wire::copy(&mut signatures, 0, &bytes[..], memory::SIGNATURES_AT, g);
+    let mut outbox = memory::outbox_in(&bytes[..]);
+    let mut kept = memory::kept_in(&bytes[..]);
+    let mut signatures = memory::signatures_in(&bytes[..]);
     delivering(
         bytes,
         said,
@@ -163,15 +173,16 @@ fn delivering(
     let outcome = delivered(&bytes[..], said, outbox, kept, signatures);
     came(bytes, b'D', outcome);
     settle_buffers(bytes, &outbox[..], &kept[..], &signatures[..]);
-    lines::end();
 }
 
+// The rest of a delivery's line.
 fn settle_buffers(bytes: &mut [u8], outbox: &[u8], kept: &[u8], signatures: &[u8])
     requires { ⌜ (memorySize ≤ length (now bytes)) × (length (now outbox) ≤ outboxRoom) × (length (now kept) ≤ keptRoom) × (length (now signatures) ≤ signaturesRoom) ⌝ }
 {
     changes::settle(bytes, b'o', memory::OUTBOX_AT, outbox);
     changes::settle(bytes, b'k', memory::KEPT_AT, kept);
     changes::settle(bytes, b'g', memory::SIGNATURES_AT, signatures);
+    lines::end();
 }
 
 fn delivered(
@@ -184,18 +195,32 @@ fn delivered(
     requires { ⌜ (memorySize ≤ length (now bytes)) × (deliverySize ≤ length (now said)) ⌝ }
 {
     let node = node_image::node_at(bytes, memory::NODE_AT);
+    let arrival = arrival_in(said);
     node.deliver(
-        said[0],
-        wire::get_u64(said, 1),
-        wire::get_i64(said, 9),
-        image::commit_at(said, 17),
-        wire::get_u64(said, 38),
+        arrival.link,
+        arrival.time,
+        arrival.observation,
+        arrival.commit,
+        arrival.bits,
         &said[DELIVERY..],
         outbox,
-        wire::get_u64(said, 46) as usize,
+        arrival.at,
         kept,
         signatures,
     )
+}
+
+fn arrival_in(said: &[u8]) -> Arrival
+    requires { ⌜ deliverySize ≤ length (now said) ⌝ }
+{
+    Arrival {
+        link: said[0],
+        time: wire::get_u64(said, 1),
+        observation: wire::get_i64(said, 9),
+        commit: image::commit_at(said, 17),
+        bits: wire::get_u64(said, 38),
+        at: wire::get_u64(said, 46) as usize,
+    }
 }
 
 fn timer(bytes: &mut [u8], lengths: Lengths, said: &[u8]) -> bool
@@ -204,12 +229,19 @@ fn timer(bytes: &mut [u8], lengths: Lengths, said: &[u8]) -> bool
     if said.len() != TIMER {
         return false;
     }
-    match said[0] {
-        0 => fires(bytes, lengths, said, Fired::Resend),
-        1 => fires(bytes, lengths, said, Fired::Progress),
-        2 => fires(bytes, lengths, said, Fired::Round),
-        3 => fires(bytes, lengths, said, Fired::Grace),
-        _ => unnamed(bytes, lengths, said),
+    if GRACE < said[0] {
+        return unnamed(bytes, lengths, said);
+    }
+    fires(bytes, lengths, said, fired_by(said[0]))
+}
+
+// The four timers by their numbers.
+fn fired_by(number: u8) -> Fired {
+    match number {
+        0 => Fired::Resend,
+        1 => Fired::Progress,
+        2 => Fired::Round,
+        _ => Fired::Grace,
     }
 }
 
@@ -243,11 +275,9 @@ fn fires(bytes: &mut [u8], lengths: Lengths, said: &[u8], fired: Fired) -> bool
     requires { ⌜ (memorySize ≤ length (now bytes)) × Within lengths × (timerSize ≤ length (now said)) ⌝ }
 {
     let o = lengths.outbox;
-    let mut outbox = [0u8; memory::OUTBOX_ROOM];
-    wire::copy(&mut outbox, 0, &bytes[..], memory::OUTBOX_AT, o);
     let g = lengths.signatures;
-    let mut signatures = [0u8; memory::SIGNATURES_ROOM];
-    wire::copy(&mut signatures, 0, &bytes[..], memory::SIGNATURES_AT, g);
+    let mut outbox = memory::outbox_in(&bytes[..]);
+    let mut signatures = memory::signatures_in(&bytes[..]);
     firing(
         bytes,
         lengths,

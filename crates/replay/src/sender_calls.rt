@@ -60,8 +60,7 @@ fn transmit(bytes: &mut [u8], lengths: Lengths, said: &[u8]) -> bool
         return false;
     }
     let w = lengths.waiting;
-    let mut waiting = [0u8; memory::WAITING_ROOM];
-    wire::copy(&mut waiting, 0, &bytes[..], memory::WAITING_AT, w);
+    let mut waiting = memory::waiting_in(&bytes[..]);
     transmitting(bytes, said, end, &mut waiting[..w]);
     true
 }

@@ -7,13 +7,13 @@ use Rattle.replay.proofs.node_calls.deliver.Statement.{statement}
 use Rattle.replay.proofs.node_calls.deliver.Tie as tie
 
 slice-aggregate-delivering : tie.Need-slice-aggregate-delivering
-slice-aggregate-delivering c = sym (length-take-le (c .before .before .before .before .before .before .before .before .before .before .before .before .before .before .before .before .before .args .lengths .outbox) (c .before .before .before .before .before .before .before .before .before .before .before .copy .last .0) (omega arith))
+slice-aggregate-delivering c = sym (length-take-le (c .before .before .before .before .before .before .before .before .before .before .before .args .lengths .outbox) (c .before .before .before .before .before .before .outbox-in .result) (omega arith))
 
 slice-aggregate-delivering-2 : tie.Need-slice-aggregate-delivering-2
-slice-aggregate-delivering-2 c = sym (length-take-le (c .before .before .before .before .before .before .before .before .before .before .before .before .before .before .before .before .before .before .args .lengths .kept) (c .before .before .before .before .before .before .before .before .copy2 .last .0) (omega arith))
+slice-aggregate-delivering-2 c = sym (length-take-le (c .before .before .before .before .before .before .before .before .before .before .before .before .args .lengths .kept) (c .before .before .before .before .before .kept-in .result) (omega arith))
 
 slice-aggregate-delivering-3 : tie.Need-slice-aggregate-delivering-3
-slice-aggregate-delivering-3 c = sym (length-take-le (c .before .before .before .before .before .before .before .before .before .before .before .before .before .before .before .before .before .before .before .args .lengths .signatures) (c .before .before .before .before .before .copy3 .last .0) (omega arith))
+slice-aggregate-delivering-3 c = sym (length-take-le (c .before .before .before .before .before .before .before .before .before .before .before .before .before .args .lengths .signatures) (c .before .before .before .before .signatures-in .result) (omega arith))
 
 delivering-requires : tie.Need-delivering-requires
 delivering-requires c κs = (
@@ -29,11 +29,8 @@ deliver-spec =
     tie.close
     (tie.spec
     (λ c. search needs)
-    (λ c. search needs)
     (λ c κs. search needs)
-    (λ c. search needs)
     (λ c κs. search needs)
-    (λ c. search needs)
     (λ c κs. search needs)
     (λ c. search needs)
     slice-aggregate-delivering

@@ -7,7 +7,7 @@ use Rattle.replay.proofs.sender_calls.transmit.Statement.{statement}
 use Rattle.replay.proofs.sender_calls.transmit.Tie as tie
 
 slice-aggregate-transmitting : tie.Need-slice-aggregate-transmitting
-slice-aggregate-transmitting c = sym (length-take-le (c .before .before .before .before .before .before .before .before .before .before .before .before .args .lengths .waiting) (c .before .before .before .copy .last .0) (omega arith))
+slice-aggregate-transmitting c = sym (length-take-le (c .before .before .before .before .before .before .before .before .before .before .args .lengths .waiting) (c .before .before .waiting-in .result) (omega arith))
 
 transmitting-requires : tie.Need-transmitting-requires
 transmitting-requires c κs = (search needs, search needs, search needs, omega (arith, slice-aggregate-transmitting c))
@@ -19,7 +19,6 @@ transmit-spec =
     (λ c. search needs)
     (λ c. search needs)
     (λ c κs. search needs)
-    (λ c. search needs)
     (λ c. search needs)
     (λ c. search needs)
     (λ c κs. search needs)
