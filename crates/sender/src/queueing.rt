@@ -107,12 +107,12 @@ pub(crate) fn slot_in(waiting: &[u8], slot: usize) -> &[u8]
 pub(crate) fn free_in(taken: [u8; Config::SLOTS]) -> usize
     ensures { λ r. ⌜ (r ≡ freeIn taken) × (r ≤ slots) ⌝ }
 {
-    let mut k: usize = 0;
-    while k < Config::SLOTS {
-        if taken[k] != 1 {
-            return k;
+    let mut slot: usize = 0;
+    while slot < Config::SLOTS {
+        if taken[slot] != 1 {
+            return slot;
         }
-        k += 1;
+        slot += 1;
     }
-    k
+    slot
 }

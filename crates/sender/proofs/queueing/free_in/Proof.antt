@@ -1,4 +1,4 @@
--- `free_in` meets its contract: the first k slots are taken, so the lowest free one is k past that of the others.
+-- `free_in` meets its contract: the slots passed are taken, so the lowest free one is so many past that of the others.
 use mathlib.Core.Path.{_≡_, ap}
 use Prim.Native.Nat.{_+_, _-_, _≤_, _<_}
 use native.Mathlib.Omega.{arith}
@@ -19,7 +19,7 @@ abbrev μ-loop : tie.MeasureT-loop
 returns : tie.Need-returns Inv-loop μ-loop
 returns c =
     let taken = c .before .before .before .args .t1 in
-    let k = c .before .before .loop .k in
+    let k = c .before .before .loop .slot in
     let h : k < length taken = search needs in
     let here = free-here taken k h (c .if1 .taken) in
     (omega arith, omega arith)
@@ -27,7 +27,7 @@ returns c =
 loop-again : tie.Need-loop-again Inv-loop μ-loop
 loop-again c =
     let taken = c .before .before .before .args .t1 in
-    let k = c .before .before .loop .k in
+    let k = c .before .before .loop .slot in
     let h : k < length taken = search needs in
     let later = free-taken taken k h (c .if1 .left) in
     (omega arith, omega arith)
@@ -37,7 +37,7 @@ unfolding freeIn
 returns-2 c =
     let taken = c .before .before .args .t1 in
     let long : length taken ≡ slots = search needs in
-    let none = ap freeIn (drop-of-length-le taken {i = c .before .loop .k} (omega arith)) in
+    let none = ap freeIn (drop-of-length-le taken {i = c .before .loop .slot} (omega arith)) in
     (omega arith, omega arith)
 
 pub free-in-spec : {M : Type 1} → statement M
