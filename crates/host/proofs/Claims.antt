@@ -3,11 +3,9 @@ use mathlib.Core.Path.{_≡_, refl, ap}
 use mathlib.Core.Bool.{false}
 use mathlib.Core.List.{List, [], _∷_}
 use Prim.Native.Nat.{ℕ}
-use lib.Dec.{eqb}
+use lib.Dec.{ltb}
 use lib.IntN.{pos}
 use Rattle.node.specs.declared.Timers.{Timers}
-use Rattle.node.specs.declared.Fired.{Fired}
-use Rattle.node.specs.declared.Fired.the-variants.{Resend, Progress, Round, Grace}
 use Rattle.node.specs.State.{restoredNode, nothingSaved}
 use Rattle.node.specs.Event.{Event, whole, delivery, starts, delivers, fires}
 use Rattle.quorum.proofs.Cases.{either}
@@ -32,7 +30,7 @@ use Rattle.contract.proofs.Claims as contract-laws
 use Rattle.host.specs.declared.LentNode.{LentNode}
 use Rattle.host.specs.declared.LentSender.{LentSender}
 use Rattle.host.specs.declared.LentContract.{LentContract}
-use Rattle.host.specs.Numbers.{timerNumber, transmitNumber}
+use Rattle.host.specs.Numbers.{firedOf, timerNumber, transmitNumber}
 use Rattle.host.specs.Lent.{plainOutcome, afterOut, payingOutcome, withContract}
 use Rattle.host.specs.Calls.{restoreAt, startAt, deliverAt, timerCall, timerAt, senderFreshAt, transmitAt, timeoutAt, contractFreshAt, submitAt, depositAt, withdrawAt}
 use Rattle.host.specs.Claims.{done, NodeStays, NodeRefusals, SenderStays, SenderRefusals, ContractStays, ContractRefusals, RefusalChangesNothing}
@@ -75,12 +73,8 @@ unarmed-keeps l time outbox at kept signatures h =
 timer-keeps : (l : LentNode) (number time : ℕ) (outbox : List ℕ) (at : ℕ) (kept signatures : List ℕ) → Keeps l outbox kept signatures (timerCall (l .node) number time outbox at kept signatures)
 unfolding timerCall
 timer-keeps l number time outbox at kept signatures =
-    let P = Keeps l outbox kept signatures in
-    let fired : (t : Fired) → Keeps l outbox kept signatures (node.callOf (l .node) (fires t time) outbox at kept signatures) = λ t. event-keeps l (fires t time) outbox at kept signatures in
-    either P (eqb number 0) _ _ (λ e. fired Resend)
-    (λ e. either P (eqb number 1) _ _ (λ e. fired Progress)
-    (λ e. either P (eqb number 2) _ _ (λ e. fired Round)
-    (λ e. either P (eqb number 3) _ _ (λ e. fired Grace) (λ e. unarmed-keeps l time outbox at kept signatures))))
+    either (Keeps l outbox kept signatures) (ltb 3 number) _ _ (λ e. unarmed-keeps l time outbox at kept signatures)
+    (λ e. event-keeps l (fires (firedOf number) time) outbox at kept signatures)
 
 node-refusals : (l : LentNode) (outbox : List ℕ) (at : ℕ) (kept signatures : List ℕ) → NodeRefusals l outbox at kept signatures
 unfolding restoreAt startAt deliverAt timerAt

@@ -2,8 +2,7 @@
 use mathlib.Core.Bool.{cond}
 use mathlib.Core.List.{List}
 use Prim.Native.Nat.{ℕ}
-use lib.Dec.{eqb}
-use Rattle.node.specs.declared.Fired.the-variants.{Resend, Progress, Round, Grace}
+use lib.Dec.{ltb}
 use Rattle.node.specs.declared.Node.{Node}
 use Rattle.node.specs.Event.{delivery, starts, delivers, fires}
 use Rattle.node.specs.Calls as node
@@ -12,6 +11,7 @@ use Rattle.contract.specs.Calls as contract
 use Rattle.host.specs.declared.LentNode.{LentNode}
 use Rattle.host.specs.declared.LentSender.{LentSender}
 use Rattle.host.specs.declared.LentContract.{LentContract}
+use Rattle.host.specs.Numbers.{firedOf}
 use Rattle.host.specs.Lent.{afterMade, LentOut, afterOut, afterTimeout, afterSenderMade, LentSlots, afterSent, afterSubmit, afterDeposit, afterWithdraw, afterContractMade}
 
 -- ---- a node
@@ -30,11 +30,8 @@ deliverAt l link time bits frame outbox at kept signatures =
 -- the timers by their numbers; any other number is a timer that is never armed
 unfoldable pub timerCall : Node → ℕ → ℕ → List ℕ → ℕ → List ℕ → List ℕ → node.Out
 timerCall n timer time outbox at kept signatures =
-    cond (eqb timer 0) (node.callOf n (fires Resend time) outbox at kept signatures)
-    (cond (eqb timer 1) (node.callOf n (fires Progress time) outbox at kept signatures)
-    (cond (eqb timer 2) (node.callOf n (fires Round time) outbox at kept signatures)
-    (cond (eqb timer 3) (node.callOf n (fires Grace time) outbox at kept signatures)
-    (node.unarmedOf n time outbox at kept signatures))))
+    cond (ltb 3 timer) (node.unarmedOf n time outbox at kept signatures)
+    (node.callOf n (fires (firedOf timer) time) outbox at kept signatures)
 
 unfoldable pub timerAt : LentNode → ℕ → ℕ → List ℕ → ℕ → List ℕ → List ℕ → LentOut
 timerAt l timer time outbox at kept signatures = afterOut l (timerCall (l .node) timer time outbox at kept signatures)

@@ -1,8 +1,11 @@
 -- The numbers that stand at the boundary for what the calls answer by name. Codes have document 01's numbers.
 use mathlib.Core.Bool.{Bool, cond}
 use Prim.Native.Nat.{ℕ}
+use lib.Dec.{eqb}
 use Rattle.config.specs.declared.Timer.{Timer}
 use Rattle.config.specs.declared.Timer.the-variants.{Leave, Start, Stop}
+use Rattle.node.specs.declared.Fired.{Fired}
+use Rattle.node.specs.declared.Fired.the-variants.{Resend, Progress, Round, Grace}
 use Rattle.sender.specs.declared.Transmit.{Transmit}
 use Rattle.sender.specs.declared.Transmit.the-variants as transmit
 use Rattle.report.specs.declared.Fault.{Fault}
@@ -10,6 +13,10 @@ use Rattle.report.specs.declared.Fault.the-variants.{Nothing, Few, Falling, Twi
 
 abbrev pub flagOf : Bool → ℕ
 flagOf b = cond b 1 0
+
+-- which timer has fired: 0 T_resend, 1 T_progress, 2 T_round, 3 T_grace; asked of these four alone
+abbrev pub firedOf : ℕ → Fired
+firedOf timer = cond (eqb timer 0) Resend (cond (eqb timer 1) Progress (cond (eqb timer 2) Round Grace))
 
 -- what becomes of a timer
 abbrev pub timerNumber : Timer → ℕ

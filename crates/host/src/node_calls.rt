@@ -7,7 +7,7 @@ use node::Fired;
 use node::Node;
 ghost use mathlib.Core.Path.{_≡_};
 ghost use Rattle.node.specs.Calls.{out};
-ghost use Rattle.host.specs.Numbers.{timerNumber, flagOf};
+ghost use Rattle.host.specs.Numbers.{firedOf, timerNumber, flagOf};
 ghost use Rattle.host.specs.Lent.{lentNode, afterCall, afterMade};
 ghost use Rattle.host.specs.Calls.{restoreAt, startAt, deliverAt, timerCall, timerAt};
 
@@ -151,7 +151,7 @@ fn fire_timer(
     lent.called(timer_call(node, timer, time, outbox, at, kept, signatures))
 }
 
-// The timers by their numbers.
+// The timers by their numbers; one that is none of the four is never armed.
 fn timer_call(
     node: Node,
     timer: u8,
@@ -163,19 +163,22 @@ fn timer_call(
 ) -> node::Outcome
     ensures { λ r. ⌜ out r (now (outbox .exit)) (now (kept .entry)) (now (signatures .exit)) ≡ timerCall node timer time (now (outbox .entry)) at (now (kept .entry)) (now (signatures .entry)) ⌝ }
 {
-    if timer == 0 {
-        return node.timer(Fired::Resend, time, outbox, at, kept, signatures);
+    if 3 < timer {
+        return node.unarmed(time, &outbox[..], at, kept, &signatures[..]);
     }
-    if timer == 1 {
-        return node.timer(Fired::Progress, time, outbox, at, kept, signatures);
+    node.timer(fired_of(timer), time, outbox, at, kept, signatures)
+}
+
+// Which timer a number from 0 to 3 names.
+fn fired_of(timer: u8) -> Fired
+    ensures { λ r. ⌜ r ≡ firedOf timer ⌝ }
+{
+    match timer {
+        0 => Fired::Resend,
+        1 => Fired::Progress,
+        2 => Fired::Round,
+        _ => Fired::Grace,
     }
-    if timer == 2 {
-        return node.timer(Fired::Round, time, outbox, at, kept, signatures);
-    }
-    if timer == 3 {
-        return node.timer(Fired::Grace, time, outbox, at, kept, signatures);
-    }
-    node.unarmed(time, &outbox[..], at, kept, &signatures[..])
 }
 
 impl LentNode {
