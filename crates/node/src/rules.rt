@@ -160,15 +160,15 @@ impl Node {
         let paced = raising(raised, self.pace);
         let pace = paced.pace;
         let sent = paced.sent;
-        let first = writing::write_announced(config, sent, outbox, at);
-        let second = writing::write_reply(
+        let announced = writing::write_announced(config, sent, outbox, at);
+        let replied = writing::write_reply(
             config,
             reply,
             observation,
             kind,
             body,
             outbox,
-            at + first,
+            at + announced,
         );
         let follower = followed.follower;
         let node = Node {
@@ -176,7 +176,7 @@ impl Node {
             follower,
             ..self
         };
-        node.doing(first + second, paced_timers(paced), handed)
+        node.doing(announced + replied, paced_timers(paced), handed)
     }
 
     // A message of the leader's.
@@ -298,13 +298,13 @@ fn led_timers(led: Led) -> Timers
     }
 }
 
-fn moved_timers(paced: Paced, led: Led) -> Timers
-    ensures { λ r. ⌜ r ≡ movedTimers paced led ⌝ }
+fn moved_timers(paced: Paced, fresh: Led) -> Timers
+    ensures { λ r. ⌜ r ≡ movedTimers paced fresh ⌝ }
 {
     let resend = paced.resend;
     let progress = paced.progress;
-    let round = led.t_round;
-    let grace = led.t_grace;
+    let round = fresh.t_round;
+    let grace = fresh.t_grace;
     Timers {
         resend,
         progress,
