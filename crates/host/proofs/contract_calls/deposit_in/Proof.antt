@@ -6,7 +6,7 @@ use Rattle.host.proofs.contract_calls.deposit_in.Tie as tie
 
 returns : tie.Need-returns
 unfolding depositAt
-returns c = cc
+returns c = rw (c .after-deposit .ensures, c .before .deposit .ensures)
 
 pub deposit-in-spec : {M : Type 1} → statement M
 deposit-in-spec = tie.close (tie.spec (λ c κs. search needs) (λ c κs. search needs) returns)

@@ -6,7 +6,7 @@ use Rattle.host.proofs.contract_calls.fresh_contract.Tie as tie
 
 returns : tie.Need-returns
 unfolding contractFreshAt
-returns c = cc
+returns c = rw (c .after-making .ensures, c .before .fresh .ensures)
 
 pub fresh-contract-spec : {M : Type 1} → statement M
 fresh-contract-spec = tie.close (tie.spec (λ c κs. search needs) (λ c κs. search needs) returns)

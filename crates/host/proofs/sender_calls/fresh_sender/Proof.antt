@@ -6,7 +6,7 @@ use Rattle.host.proofs.sender_calls.fresh_sender.Tie as tie
 
 returns : tie.Need-returns
 unfolding senderFreshAt
-returns c = cc
+returns c = rw (c .made .ensures, c .before .fresh .ensures)
 
 pub fresh-sender-spec : {M : Type 1} → statement M
 fresh-sender-spec = tie.close (tie.spec (λ c κs. search needs) (λ c κs. search needs) returns)

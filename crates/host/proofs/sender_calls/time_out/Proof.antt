@@ -6,7 +6,7 @@ use Rattle.host.proofs.sender_calls.time_out.Tie as tie
 
 returns : tie.Need-returns
 unfolding timeoutAt
-returns c = cc
+returns c = rw (c .released .ensures, c .before .timeout .ensures)
 
 pub time-out-spec : {M : Type 1} → statement M
 time-out-spec = tie.close (tie.spec (λ c κs. search needs) (λ c κs. search needs) returns)
