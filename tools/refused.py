@@ -11,9 +11,9 @@ An edit holds one mistake or more, each in the body of another function:
 
 A function is checked against its own body and the contracts of what it calls, so a mistake in a body disturbs no other function,
 and the check's log tells which are refused for themselves: those with an error in their own proof that is not about another
-declaration, or whose proof the check searched for and did not find. Each function that an edit names has to be among them. Where
-an edit holds several mistakes they have to be in src/, and no other function may be refused for itself. A claim that is no
-function's is named by the file of its proof: `Claims.worked`.
+declaration, or whose proof the check searched for and did not find. Each function that an edit names has to be among them and,
+where an edit holds several mistakes, no other function may be. A claim that is no function's is named by the file of its proof:
+`Claims.worked`.
 
 usage: tools/refused.py [ROOT]           after `rt ci`, which leaves the logs; says what is amiss, and then ends with status 1
        tools/refused.py --list [ROOT]    a line for each mistake: crate/name, function, edit
@@ -30,17 +30,17 @@ SEARCH = re.compile(r"fn \w+::(\S+): no proof: .*`search` does not close")
 
 
 class Mistake:
-    """A mistake of an edit: its name, the function that it is in, and the files that it changes."""
+    """A mistake of an edit: its name, the function that it is in, and how many changes make it."""
 
     def __init__(self, name, function):
         self.name = name
         self.function = function
-        self.files = []
+        self.changes = 0
 
 
 def mistakes_of(text):
     """The mistakes of an edit, and what is amiss with its form."""
-    mistakes, amiss, above, file = [], [], "", ""
+    mistakes, amiss, above = [], [], ""
     for line in text.splitlines():
         where = WHERE.match(line)
         if where:
@@ -48,36 +48,35 @@ def mistakes_of(text):
             if not named:
                 amiss.append(f"no line names the mistake in {where[1]}")
             mistakes.append(Mistake(named[1] if named else "", where[1]))
-        elif line.startswith("file: "):
-            file = line[len("file: "):]
         elif line.startswith("old: "):
             if mistakes:
-                mistakes[-1].files.append(file)
+                mistakes[-1].changes += 1
             else:
                 amiss.append("a change stands above the first '# in:'")
         above = line
     functions = [m.function for m in mistakes]
-    amiss += [f"{m.name} changes nothing" for m in mistakes if not m.files]
+    amiss += [f"{m.name} changes nothing" for m in mistakes if not m.changes]
     amiss += [f"{f} is named twice" for f in sorted(set(functions)) if functions.count(f) > 1]
     if not mistakes:
         amiss.append("it names no function")
-    if len(mistakes) > 1:
-        amiss += [f"{m.name} is not in src/ alone" for m in mistakes if not all(f.startswith("src/") for f in m.files)]
     return mistakes, amiss
 
 
 def refused_in(log):
-    """The functions, and the proofs of claims, that a log refuses for themselves."""
-    found = set()
+    """The functions, and the claims, that a log refuses for themselves."""
+    functions, claims = set(), set()
     for line in log.splitlines():
         error = PROOF.search(line)
         if error and "was not admitted" not in line:
             path = error[1].replace("/", "::")
-            found.add(path if error[2] else f"{path}.{error[3]}")
+            if error[2]:
+                functions.add(path)
+            else:
+                claims.add(f"{path}.{error[3]}")
         search = SEARCH.match(line)
         if search:
-            found.add(search[1])
-    return found
+            functions.add(search[1])
+    return functions, claims
 
 
 def amiss_in(edit, log):
@@ -85,10 +84,10 @@ def amiss_in(edit, log):
     mistakes, amiss = mistakes_of(edit)
     if log is None:
         return amiss + ["there is no log of its check"]
-    refused, named = refused_in(log), {m.function for m in mistakes}
-    amiss += [f"{m.name}: {m.function} is not refused for itself" for m in mistakes if m.function not in refused]
+    functions, claims = refused_in(log)
+    amiss += [f"{m.name}: {m.function} is not refused for itself" for m in mistakes if m.function not in functions | claims]
     if len(mistakes) > 1:
-        amiss += [f"{f} is refused, and no mistake is in it" for f in sorted(refused - named)]
+        amiss += [f"{f} is refused, and no mistake is in it" for f in sorted(functions - {m.function for m in mistakes})]
     return amiss
 
 

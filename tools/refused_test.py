@@ -1,8 +1,12 @@
 #!/usr/bin/env python3
-"""Tests of refused.py on stored logs of two checks. Silent where all is well; else says which case comes out otherwise, and ends with status 1.
+"""Tests of refused.py on stored logs of must-fail checks. Silent where all is well; else says which case comes out otherwise, and ends with status 1.
 
-The logs are those of must-fail checks, without the lines that show terms. In config's three functions are refused for themselves: `good_own` and
-`times::paired`, whose proofs are searched for, and `leader_of`, which has one; `Config::good` and `Commit::good` only because of what they call.
+The logs are without the lines that show terms.
+config: three functions are refused for themselves: `good_own` and `times::paired`, whose proofs are searched for, and `leader_of`, which has one;
+    `Config::good` and `Commit::good` only because of what they call.
+survives: `good_own` is refused, so rt counts the edit as refused; the change in `times::between` makes an equal program, which is proved.
+ledger: five mistakes, one of them in a definition, so that claims are refused too.
+worked: a row of the table, so that a claim is refused and there is no function.
 """
 
 import sys
@@ -22,6 +26,7 @@ OWN = mistake("own_zero", "good_own")
 LEADER = mistake("leader_from_zero", "leader_of")
 PAIRED = mistake("commit_half_empty", "times::paired", "src/times.rt")
 GOOD = mistake("bad_is_good", "Config::good")
+LEDGER = "".join(mistake(f"wrong_{f.lower().replace('::', '_')}", f) for f in ("Ledger::empty", "Ledger::deposit", "covers", "emptied"))
 
 # what is tried, the log, the edit, and what has to be said of it
 CASES = [
@@ -48,12 +53,13 @@ CASES = [
     ("a mistake alone, refused in more than one place", "config", OWN, []),
     ("two mistakes in one function", "config", OWN + LEADER + PAIRED + OWN, ["good_own is named twice"]),
     (
-        "a definition among the bodies",
-        "config",
-        OWN + LEADER + mistake("commit_half_empty", "times::paired", "specs/Bounds.antt"),
-        ["commit_half_empty is not in src/ alone"],
+        "an equal program beside a mistake",
+        "survives",
+        OWN + mistake("clock_at_the_commit", "times::between", "src/times.rt"),
+        ["clock_at_the_commit: times::between is not refused for itself"],
     ),
-    ("a definition alone", "config", mistake("commit_half_empty", "times::paired", "specs/Bounds.antt"), []),
+    ("a definition among the bodies", "ledger", LEDGER + mistake("neighbour_credited", "Ledger::earn", "specs/Ledger.antt"), []),
+    ("a definition that nobody names", "ledger", LEDGER, ["Ledger::earn is refused, and no mistake is in it"]),
     (
         "no function named",
         "config",
