@@ -20,7 +20,7 @@ use Rattle.frame.specs.Table.{goodKind, versionOf, trailerLength}
 use Rattle.frame.specs.Encode.{trailerBytes}
 use Rattle.frame.specs.Decode.{trailerPlace, kindIn, senderIn, versionIn, lengthIn, numberIn, bodyIn, messageOf}
 use Rattle.frame.specs.Range.{goodMessage}
-use Rattle.frame.specs.Check.{goodLength, bodyAnswer, afterSender, afterKind, afterVersion, afterShort, tooShort, frameAnswer}
+use Rattle.frame.specs.Check.{goodLength, bodyAnswer, afterSender, otherSender, afterKind, afterVersion, otherFeed, afterShort, tooShort, frameAnswer}
 use Rattle.frame.proofs.Entries.{part-last, part-number}
 
 -- ---- what the checks tell
@@ -61,9 +61,9 @@ pub checked-frame : (f : List ℕ) (n number link : ℕ) → frameAnswer f n num
 unfolding frameAnswer afterShort afterVersion afterKind afterSender numberOf
 checked-frame f n number link e =
     let p = stage-passed itself (tooShort f) Short (afterShort f n number link) refl (ap isDone e) in
-    let q = stage-passed itself (not (eqb (versionIn f) (versionOf n)) || not (eqb (numberIn f) number)) Version (afterVersion f n link) refl (p .1) in
+    let q = stage-passed itself (otherFeed f n number) Version (afterVersion f n link) refl (p .1) in
     let r = stage-passed itself (not (goodKind (kindIn f))) Kind (afterKind f n link) refl (q .1) in
-    let s = stage-passed itself (eqb (senderIn f) 0 || ltb n (senderIn f) || not (eqb (senderIn f) link)) Sender (afterSender f n) refl (r .1) in
+    let s = stage-passed itself (otherSender (senderIn f) n link) Sender (afterSender f n) refl (r .1) in
     let t = stage-passed itself (not (eqb (lengthIn f + trailerLength) (length f))) Length (bodyAnswer n (kindIn f) (bodyIn f)) refl (s .1) in
     let answer = done-only _ (t .1) in
     let body = passed-body n (kindIn f) (bodyIn f) answer in

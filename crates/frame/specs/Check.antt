@@ -24,18 +24,25 @@ bodyAnswer n kind b = cond (not (goodLength kind b)) Length (cond (not (goodMess
 unfoldable pub afterSender : List ℕ → ℕ → Answer
 afterSender f n = cond (not (eqb (lengthIn f + trailerLength) (length f))) Length (bodyAnswer n (kindIn f) (bodyIn f))
 
--- SENDER: "0, above n, or not the link's member"
+-- "0, above n, or not the link's member"
+abbrev pub otherSender : ℕ → ℕ → ℕ → Bool
+otherSender sender n link = eqb sender 0 || ltb n sender || not (eqb sender link)
+
+-- SENDER
 unfoldable pub afterKind : List ℕ → ℕ → ℕ → Answer
-afterKind f n link = cond (eqb (senderIn f) 0 || ltb n (senderIn f) || not (eqb (senderIn f) link)) Sender (afterSender f n)
+afterKind f n link = cond (otherSender (senderIn f) n link) Sender (afterSender f n)
 
 -- KIND: "not 1 to 7"
 unfoldable pub afterVersion : List ℕ → ℕ → ℕ → Answer
 afterVersion f n link = cond (not (goodKind (kindIn f))) Kind (afterKind f n link)
 
--- VERSION: "version or configuration number differs"
+-- "version or configuration number differs"
+abbrev pub otherFeed : List ℕ → ℕ → ℕ → Bool
+otherFeed f n number = not (eqb (versionIn f) (versionOf n)) || not (eqb (numberIn f) number)
+
+-- VERSION
 unfoldable pub afterShort : List ℕ → ℕ → ℕ → ℕ → Answer
-afterShort f n number link =
-    cond (not (eqb (versionIn f) (versionOf n)) || not (eqb (numberIn f) number)) Version (afterVersion f n link)
+afterShort f n number link = cond (otherFeed f n number) Version (afterVersion f n link)
 
 -- SHORT: "under 16 bytes, or body length + 16 above the slice"
 abbrev pub tooShort : List ℕ → Bool

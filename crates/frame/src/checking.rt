@@ -9,10 +9,10 @@ ghost use mathlib.Core.Path.{_≡_};
 ghost use mathlib.Core.Bool.{not, cond, _&&_};
 ghost use Prim.Native.Nat.{_+_, _*_, _≤_, _<_};
 ghost use lib.ListN.{length, getD, drop};
-ghost use Rattle.frame.specs.Table.{bodyLength};
+ghost use Rattle.frame.specs.Table.{bodyLength, trailerLength};
 ghost use Rattle.frame.specs.Decode.{entries, epochIn, roundIn, countIn, listPlace, observationsIn, listEnd, signerCountIn, signersIn, attestedIn, Readable};
 ghost use Rattle.frame.specs.Range.{goodEpoch, goodRound, allMembers, goodObservations, goodSigners, goodAttested};
-ghost use Rattle.frame.specs.Check.{bodyAnswer, frameAnswer};
+ghost use Rattle.frame.specs.Check.{bodyAnswer, otherSender, otherFeed, frameAnswer};
 
 // Checks 4 to 9: what is wrong with a frame that came over the link of member `link`, in a feed of n members with this
 // configuration number. Done where nothing is.
@@ -23,9 +23,7 @@ pub fn check(frame: &[u8], n: u8, number: u64, link: u8) -> Answer
         return Answer::Short;
     };
     let end = frame.len() - TRAILER;
-    let other_version = wire::get_u16(frame, end + 2) != crate::version(n);
-    let other_number = wire::get_u64(frame, end + 8) != number;
-    if other_version | other_number {
+    if other_feed(frame, n, number) {
         return Answer::Version;
     }
     let kind = frame[end];
@@ -35,14 +33,31 @@ pub fn check(frame: &[u8], n: u8, number: u64, link: u8) -> Answer
     if 7 < kind {
         return Answer::Kind;
     }
-    let sender = frame[end + 1];
-    if (sender == 0) | (n < sender) | (sender != link) {
+    if other_sender(frame[end + 1], n, link) {
         return Answer::Sender;
     }
     if start != 0 {
         return Answer::Length;
     }
     check_body(kind, &frame[start..end], n)
+}
+
+// The test of VERSION, on a trailer that is there: SHORT comes first.
+fn other_feed(frame: &[u8], n: u8, number: u64) -> bool
+    requires { ⌜ trailerLength ≤ length (now frame) ⌝ }
+    ensures { λ r. ⌜ r ≡ otherFeed (now (frame .entry)) n number ⌝ }
+{
+    let end = frame.len() - TRAILER;
+    let other_version = wire::get_u16(frame, end + 2) != crate::version(n);
+    let other_number = wire::get_u64(frame, end + 8) != number;
+    other_version | other_number
+}
+
+// The test of SENDER. Nothing is asked of the link, so that 0 and above n are tests of their own.
+fn other_sender(sender: u8, n: u8, link: u8) -> bool
+    ensures { λ r. ⌜ r ≡ otherSender sender n link ⌝ }
+{
+    (sender == 0) | (n < sender) | (sender != link)
 }
 
 // LENGTH and RANGE of a body, by the reader of its kind.

@@ -1,9 +1,9 @@
 -- Each call ends with an answer that document 01 lists for it: every test of a call's checks hands on one of two answers, and both are listed.
 use mathlib.Core.Path.{_≡_, refl, sym, ap, _∙_}
-use mathlib.Core.Bool.{Bool, false, not, _&&_, _||_, false≢true}
+use mathlib.Core.Bool.{Bool, false, not, _&&_, false≢true}
 use mathlib.Core.List.{List, [], _∷_}
 use Prim.Native.Nat.{ℕ, _+_}
-use lib.Dec.{eqb, leb, ltb}
+use lib.Dec.{eqb, leb}
 use lib.ListN.{length}
 use Rattle.config.specs.Bounds.{goodTime, goodCommit, goodConfig}
 use Rattle.config.specs.Codes.{numberOf, isDone}
@@ -15,9 +15,9 @@ use Rattle.config.proofs.Facts.{done-only}
 use Rattle.quorum.specs.First.{among}
 use Rattle.quorum.proofs.Cases.{test-false}
 use Rattle.frame.specs.Message.{Message, newEpoch, observeReq, observe, reportReq, report, final, finalEcho}
-use Rattle.frame.specs.Table.{goodKind, versionOf, trailerLength}
-use Rattle.frame.specs.Decode.{kindIn, senderIn, versionIn, lengthIn, numberIn, bodyIn, messageIn}
-use Rattle.frame.specs.Check.{afterSender, afterKind, afterVersion, afterShort, tooShort, frameAnswer}
+use Rattle.frame.specs.Table.{goodKind, trailerLength}
+use Rattle.frame.specs.Decode.{kindIn, senderIn, lengthIn, bodyIn, messageIn}
+use Rattle.frame.specs.Check.{afterSender, otherSender, afterKind, afterVersion, otherFeed, afterShort, tooShort, frameAnswer}
 use Rattle.report.proofs.Listed.{In, either-in, body-in}
 use Rattle.pacemaker.specs.State.{isStarted}
 use Rattle.pacemaker.specs.Rules as pacemaker
@@ -44,9 +44,9 @@ module _ (d : Delivery) where
   unfolding numberOf frameAnswer afterShort afterVersion afterKind afterSender
   frame-in f n number link =
       either-in all (tooShort f) _ _ refl
-      (either-in all (not (eqb (versionIn f) (versionOf n)) || not (eqb (numberIn f) number)) _ _ refl
+      (either-in all (otherFeed f n number) _ _ refl
       (either-in all (not (goodKind (kindIn f))) _ _ refl
-      (either-in all (eqb (senderIn f) 0 || ltb n (senderIn f) || not (eqb (senderIn f) link)) _ _ refl
+      (either-in all (otherSender (senderIn f) n link) _ _ refl
       (either-in all (not (eqb (lengthIn f + trailerLength) (length f))) _ _ refl (body-in all n (kindIn f) (bodyIn f) refl refl refl)))))
 
   finding-in : (v : Finding) → In all (answerOf v)

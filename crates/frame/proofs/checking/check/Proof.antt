@@ -1,15 +1,12 @@
 -- `frame::check` meets its contract: past each stage of the specs the answer is the next stage's, and each return cites the one before it.
-use mathlib.Core.Bool.{Bool, not, cond, _||_}
 use mathlib.Core.List.{List}
-use mathlib.Core.Path.{_≡_, sym, ap, ap₂, _∙_}
+use mathlib.Core.Path.{_≡_, sym, ap₂, _∙_}
 use Prim.Native.Nat.{ℕ, _+_, _-_}
 use native.Mathlib.Omega.{arith}
 use borrow.Author.Tests.{le-leb, lt-leb, eq-eqb, ne-eqb}
 use denote.Ref.{now}
-use lib.Dec.{eqb}
 use lib.ListN.{length, take, drop}
 use Rattle.config.specs.declared.Answer.{Answer}
-use Rattle.config.specs.declared.Answer.the-variants.{Version}
 use Rattle.frame.specs.Table.{trailerLength}
 use Rattle.frame.specs.Decode.{trailerPlace, kindIn, lengthIn}
 use Rattle.frame.specs.Check.{frameAnswer, afterShort, afterVersion, afterKind, afterSender, bodyAnswer}
@@ -20,17 +17,14 @@ use Rattle.frame.proofs.checking.check.Tie as tie
 
 -- ---- where the body's start was found, seen from each place behind it
 
-abbrev numbers : tie.After-get-u64 → tie.After-start
-numbers c = c .before .before .before .before
-
 abbrev versioned : tie.Else1 → tie.After-start
-versioned c = numbers (c .before)
+versioned c = c .before .before .before
 
 abbrev kinded : tie.Else3 → tie.After-start
 kinded c = versioned (c .before .before .before)
 
 abbrev sent : tie.Else4 → tie.After-start
-sent c = kinded (c .before .before)
+sent c = kinded (c .before .before .before)
 
 abbrev entry : tie.After-start → tie.Start
 entry c = c .before .before .before .before
@@ -50,19 +44,9 @@ not-short : (c : tie.After-start) → answer c ≡ afterShort (frame c) (entry c
 unfolding frameAnswer
 not-short c = rw (starts c .long)
 
-abbrev past-version : tie.After-start → Answer
-past-version c = afterVersion (frame c) (entry c .args .n) (entry c .args .link)
-
--- the test is that of `afterShort`, of what the callees promise
-versions : (c : tie.After-get-u64) → answer (numbers c) ≡ cond (not (eqb (c .before .before .get-u16 .result) (c .before .version .result)) || not (eqb (c .get-u64 .result) (entry (numbers c) .args .number))) Version (past-version (numbers c))
+not-version : (c : tie.Else1) → answer (versioned c) ≡ afterVersion (frame (versioned c)) (entry (versioned c) .args .n) (entry (versioned c) .args .link)
 unfolding afterShort
-versions c =
-    let version = ap₂ (λ (x y : ℕ). not (eqb x y)) (c .before .before .get-u16 .ensures) (c .before .version .ensures) in
-    let number = ap (λ (x : ℕ). not (eqb x (entry (numbers c) .args .number))) (c .get-u64 .ensures) in
-    not-short (numbers c) ∙ ap (λ (t : Bool). cond t Version (past-version (numbers c))) (sym (ap₂ _||_ version number))
-
-not-version : (c : tie.Else1) → answer (versioned c) ≡ past-version (versioned c)
-not-version c = rw (c .if1 .left) at (versions (c .before))
+not-version c = not-short (versioned c) ∙ rw (sym (c .before .other-feed .ensures) ∙ c .if1 .left)
 
 not-kind : (c : tie.Else3) → answer (kinded c) ≡ afterKind (frame (kinded c)) (entry (kinded c) .args .n) (entry (kinded c) .args .link)
 unfolding afterVersion
@@ -72,7 +56,7 @@ not-kind c =
 
 not-sender : (c : tie.Else4) → answer (sent c) ≡ afterSender (frame (sent c)) (entry (sent c) .args .n)
 unfolding afterKind
-not-sender c = not-kind (c .before .before) ∙ rw (c .if4 .left)
+not-sender c = not-kind (c .before .before .before) ∙ rw (sym (c .before .other-sender .ensures) ∙ c .if4 .left)
 
 -- ---- the needs
 
@@ -83,14 +67,12 @@ returns c = rw (start-short (now (c .before .before .before .before .args .frame
 sub-end : tie.Need-sub-end
 sub-end c = omega (arith, starts (c .before) .trailer)
 
-get-u16-requires : tie.Need-get-u16-requires
-get-u16-requires c κs = omega (arith, starts (c .before) .trailer)
-
-get-u64-requires : tie.Need-get-u64-requires
-get-u64-requires c κs = omega (arith, starts (c .before .before .before) .trailer)
+other-feed-requires : tie.Need-other-feed-requires
+other-feed-requires c κs = starts (c .before) .trailer
 
 returns-2 : tie.Need-returns-2
-returns-2 c = sym (rw (c .if1 .taken) at (versions (c .before)))
+unfolding afterShort
+returns-2 c = sym (not-short (c .before .before .before) ∙ rw (sym (c .before .other-feed .ensures) ∙ c .if1 .taken))
 
 shared-slice-read-kind : tie.Need-shared-slice-read-kind
 shared-slice-read-kind c = omega (arith, starts (versioned (c .before)) .trailer)
@@ -105,12 +87,12 @@ returns-4 c =
     let kind = kindIn (frame (versioned (c .before .before .before))) in
     sym (not-version (c .before .before .before) ∙ rw (le-leb 1 kind (omega arith), lt-leb kind 7 (c .if3 .taken)))
 
-shared-slice-read-sender : tie.Need-shared-slice-read-sender
-shared-slice-read-sender c = omega (arith, starts (kinded (c .before)) .trailer)
+shared-slice-read-other-sender : tie.Need-shared-slice-read-other-sender
+shared-slice-read-other-sender c = omega (arith, starts (kinded (c .before)) .trailer)
 
 returns-5 : tie.Need-returns-5
 unfolding afterKind
-returns-5 c = sym (not-kind (c .before .before) ∙ rw (c .if4 .taken))
+returns-5 c = sym (not-kind (c .before .before .before) ∙ rw (sym (c .before .other-sender .ensures) ∙ c .if4 .taken))
 
 returns-6 : tie.Need-returns-6
 unfolding afterSender
@@ -149,17 +131,14 @@ check-spec =
     (λ c. search needs)
     returns
     sub-end
-    (λ c. search needs)
-    get-u16-requires
-    (λ c κs. search needs)
-    (λ c. search needs)
-    get-u64-requires
+    other-feed-requires
     returns-2
     shared-slice-read-kind
     returns-3
     returns-4
     (λ c. search needs)
-    shared-slice-read-sender
+    shared-slice-read-other-sender
+    (λ c κs. search needs)
     returns-5
     returns-6
     sub-check-body
