@@ -6,6 +6,7 @@ use crate::Answer;
 
 impl Answer {
     // The number that document 01 gives the answer.
+    #[tactic(auto, unfolding(crate::specs::Codes::number_of))]
     pub fn number(self) -> u8
         ensures { result ≡ number_of self }
     {

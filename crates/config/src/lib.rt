@@ -1,5 +1,7 @@
 // The configuration of a feed, and what every other crate asks about it: limits, codes, times, commits, leaders.
 // Tests are joined by `&`: none of them has to wait for another.
+#![tactic(auto)]
+
 mod codes;
 mod schedule;
 mod times;
@@ -13,7 +15,7 @@ pub use times::{between, good_time, paired};
 
 // What the members of one feed have agreed on, and which of them this node is.
 #[repr(C)]
-#[derive(Drop)]
+#[derive(Clone, Copy)]
 pub struct Config {
     // which configuration this is; frames carry it and signatures cover it
     pub number: u64,
@@ -39,7 +41,7 @@ pub struct Config {
 
 // The fixed numbers of document 01, "Numbers".
 #[repr(C)]
-#[derive(Drop)]
+#[derive(Clone, Copy)]
 pub struct Limits {
     // the most members a feed can have
     pub members: usize,
@@ -73,7 +75,7 @@ pub struct Limits {
 
 // The contract's last commit, as the host has read it: epoch and round are both 0 before the first one.
 #[repr(C)]
-#[derive(Drop)]
+#[derive(Clone, Copy)]
 pub struct Commit {
     pub median: i64,
     pub time: u64,
@@ -83,7 +85,7 @@ pub struct Commit {
 
 // What a host saves of a node before any of its frames leave, and restores it from.
 #[repr(C)]
-#[derive(Drop)]
+#[derive(Clone, Copy)]
 pub struct Saved {
     pub epoch: u32,
     // the highest number sent in a NEWEPOCH
@@ -91,7 +93,7 @@ pub struct Saved {
 }
 
 // The codes of document 01, in its order; `Answer::number` gives the number of each.
-#[derive(Drop)]
+#[derive(Clone, Copy)]
 pub enum Answer {
     Done,
     Ignored,
@@ -117,7 +119,7 @@ pub enum Answer {
 }
 
 // What a call has the host do with one of its timers; a running one is restarted by `Start`.
-#[derive(Drop)]
+#[derive(Clone, Copy)]
 pub enum Timer {
     Leave,
     Start,
@@ -220,6 +222,7 @@ impl Config {
     }
 
     // Whether every number of the configuration is in its range.
+    #[tactic(auto, unfolding(crate::specs::Bounds::good_config))]
     pub fn good(self) -> bool
         ensures { result ≡ good_config self }
     {
@@ -227,6 +230,7 @@ impl Config {
     }
 
     // Whether every number that does not depend on which member this is, is in its range.
+    #[tactic(auto, unfolding(crate::specs::Bounds::good_feed))]
     pub fn good_feed(self) -> bool
         ensures { result ≡ good_feed self }
     {

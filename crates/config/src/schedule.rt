@@ -21,6 +21,7 @@ pub(crate) fn good_schedule(n: u8, f: u8, count: u8, schedule: [u8; Config::STAG
 }
 
 // Whether each of the first `stages` stages has a member.
+#[tactic(auto, using(crate::proofs::Stages::none_empty_suc), unfolding(crate::specs::Bounds::none_empty))]
 fn none_empty(schedule: [u8; Config::STAGES], stages: usize) -> bool
     requires { stages ≤ most_stages }
     ensures { result ≡ none_empty (take stages schedule) }
@@ -35,6 +36,7 @@ fn none_empty(schedule: [u8; Config::STAGES], stages: usize) -> bool
 }
 
 // How many members the first `stages` stages have together.
+#[tactic(auto, using(crate::proofs::Stages::sum_suc), unfolding(crate::specs::Bounds::sum))]
 fn sum_of(schedule: [u8; Config::STAGES], stages: usize) -> usize
     requires { stages ≤ most_stages }
     ensures { result ≡ sum (take stages schedule) }

@@ -1,4 +1,6 @@
 // The contract: which report it accepts, the median it publishes, and the fees it pays out of its fund.
+#![tactic(auto)]
+
 ghost use Rattle.std.specs.Prelude.{◌≡◌, true, ◌≤◌};
 ghost use Rattle.config.specs.declared.Answer.TheVariants.{Done};
 ghost use Rattle.frame.specs.Decode.{attested_in};
@@ -14,7 +16,7 @@ use report::Fault;
 
 // What a contract was made with.
 #[repr(C)]
-#[derive(Drop)]
+#[derive(Clone, Copy)]
 pub struct Terms {
     // what each listed member earns with a report
     pub observation_fee: u64,
@@ -26,7 +28,7 @@ pub struct Terms {
 }
 
 #[repr(C)]
-#[derive(Drop)]
+#[derive(Clone, Copy)]
 pub struct Contract {
     pub ledger: Ledger,
     // the published median, with its epoch, round and time
@@ -35,21 +37,21 @@ pub struct Contract {
 }
 
 // What making a contract came to.
-#[derive(Drop)]
+#[derive(Clone, Copy)]
 pub struct Made {
     pub answer: Answer,
     pub contract: Contract,
 }
 
 // What a submission is answered before it is paid for: DONE or a code; `fault` is the detail where checks 14 to 17 refuse it.
-#[derive(Drop)]
+#[derive(Clone, Copy)]
 pub struct Refusal {
     pub answer: Answer,
     pub fault: Fault,
 }
 
 // What a submission came to.
-#[derive(Drop)]
+#[derive(Clone, Copy)]
 pub struct Submitted {
     pub answer: Answer,
     pub fault: Fault,
@@ -57,14 +59,14 @@ pub struct Submitted {
 }
 
 // What a deposit came to.
-#[derive(Drop)]
+#[derive(Clone, Copy)]
 pub struct Deposited {
     pub answer: Answer,
     pub contract: Contract,
 }
 
 // What a withdrawal came to, and what is to be paid to the member.
-#[derive(Drop)]
+#[derive(Clone, Copy)]
 pub struct Withdrawn {
     pub answer: Answer,
     pub amount: u64,
@@ -73,6 +75,7 @@ pub struct Withdrawn {
 
 impl Terms {
     // Whether members and fees are in range.
+    #[tactic(auto, unfolding(crate::specs::State::good_terms))]
     pub fn good(self) -> bool
         ensures { result ≡ good_terms self }
     {
@@ -82,6 +85,7 @@ impl Terms {
     }
 
     // What a report of m observations costs.
+    #[tactic(auto, using(crate::proofs::Facts::terms_facts))]
     fn cost(self, m: usize) -> u64
         requires { (good_terms self ≡ true) × (m ≤ 255) }
         ensures { result ≡ cost self m }
@@ -92,6 +96,7 @@ impl Terms {
 
 impl Contract {
     // A contract under these terms that nobody has paid into; CONFIG where they are out of range.
+    #[tactic(auto, unfolding(crate::specs::Calls::made_of))]
     pub fn fresh(terms: Terms) -> Made
         ensures { result ≡ made_of terms }
     {
@@ -113,6 +118,7 @@ impl Contract {
     }
 
     // Whether every field is in its range, and the deposits cover what there is and what was paid.
+    #[tactic(auto, unfolding(crate::specs::State::good_contract))]
     pub fn good(self) -> bool
         ensures { result ≡ good_contract self }
     {
@@ -123,6 +129,7 @@ impl Contract {
     }
 
     // A member submits a FINAL body, at a time, with verdict bits of its signers.
+    #[tactic(auto, unfolding(crate::specs::Calls::submitted_of))]
     pub fn submit(self, body: &[u8], transmitter: u8, time: u64, bits: u64) -> Submitted
         ensures { result ≡ submitted_of self body.now transmitter time bits }
     {
@@ -145,6 +152,7 @@ impl Contract {
     }
 
     // What a submission is refused with: 2, 8, 9, 13, 14 to 17, 7, 18, first match wins.
+    #[tactic(auto, using(config::proofs::Facts::done_only), unfolding(crate::specs::Calls::refusal_of))]
     fn refusal(self, body: &[u8], transmitter: u8, time: u64, bits: u64) -> Refusal
         ensures { result ≡ refusal_of self body.now transmitter time bits }
     {
@@ -163,6 +171,7 @@ impl Contract {
     }
 
     // 13, then 14 to 17, of a body in range; then 7 and 18.
+    #[tactic(auto, using(frame::proofs::Entries::length_entries), unfolding(crate::specs::Calls::after_range, crate::specs::Calls::after_old))]
     fn after_range(self, body: &[u8], transmitter: u8, bits: u64) -> Refusal
         requires { (body_answer self.terms.n 6 body.now ≡ Done) × (good_contract self ≡ true) }
         ensures { result ≡ after_range self (attested_in body.now) transmitter bits }
@@ -186,6 +195,7 @@ impl Contract {
     }
 
     // 7, then 18, of a report of m observations that stands.
+    #[tactic(auto, using(crate::proofs::Facts::contract_facts), unfolding(crate::specs::Calls::after_report))]
     fn after_report(self, m: usize, transmitter: u8) -> Refusal
         requires { (m ≤ 255) × (good_contract self ≡ true) }
         ensures { result ≡ after_report self m transmitter }
@@ -202,6 +212,7 @@ impl Contract {
     }
 
     // The contract after a report that is accepted.
+    #[tactic(auto, unfolding(crate::specs::Calls::accepting))]
     fn accepted(self, body: &[u8], transmitter: u8, time: u64) -> Contract
         requires { Payable self transmitter body.now }
         ensures { result ≡ accepting self (attested_in body.now) transmitter time }
@@ -222,6 +233,7 @@ impl Contract {
     }
 
     // An amount is paid in.
+    #[tactic(auto, unfolding(crate::specs::Calls::deposited_of))]
     pub fn deposit(self, amount: u64) -> Deposited
         ensures { result ≡ deposited_of self amount }
     {
@@ -239,6 +251,7 @@ impl Contract {
     }
 
     // 2, 9.
+    #[tactic(auto, unfolding(crate::specs::Calls::deposit_answer))]
     fn deposit_answer(self, amount: u64) -> Answer
         ensures { result ≡ deposit_answer self amount }
     {
@@ -253,6 +266,7 @@ impl Contract {
     }
 
     // A member's whole balance is paid out.
+    #[tactic(auto, using(crate::proofs::Facts::withdraw_passed), unfolding(crate::specs::Calls::withdrawn_of))]
     pub fn withdraw(self, member: u8) -> Withdrawn
         ensures { result ≡ withdrawn_of self member }
     {
@@ -277,6 +291,7 @@ impl Contract {
     }
 
     // 2, 7.
+    #[tactic(auto, unfolding(crate::specs::Calls::withdraw_answer))]
     fn withdraw_answer(self, member: u8) -> Answer
         ensures { result ≡ withdraw_answer self member }
     {
@@ -310,6 +325,7 @@ fn plainly(answer: Answer) -> Refusal
 }
 
 // The ledger after the fees of a report are paid: to each listed member, and to the transmitter.
+#[tactic(auto, using(crate::proofs::Fees::listed_count, crate::proofs::Fees::fund_all), unfolding(crate::specs::Calls::paying))]
 fn paid(terms: Terms, ledger: Ledger, body: &[u8], transmitter: u8) -> Ledger
     requires { Covers terms ledger transmitter body.now }
     ensures { result ≡ paying terms ledger (members_of (attested_in body.now).list) transmitter }
@@ -319,6 +335,7 @@ fn paid(terms: Terms, ledger: Ledger, body: &[u8], transmitter: u8) -> Ledger
 }
 
 // The ledger after each listed member has earned the observation fee. The turns alter one local: `Ledger::earn` would copy the ledger for each member.
+#[tactic(auto, using(crate::proofs::Fees::fees_next))]
 fn paid_all(terms: Terms, ledger: Ledger, body: &[u8]) -> Ledger
     requires { CoversAll terms ledger body.now }
     ensures { result ≡ earning_all ledger (members_of (attested_in body.now).list) terms.observation_fee }

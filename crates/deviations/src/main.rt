@@ -1,5 +1,7 @@
 // Reads deviation cases from standard input, 20 bytes each (alpha, old price, new price, big-endian), and prints
 // "yes" or "no" for each.
+#![tactic(auto)]
+
 use config::Config;
 use libc::{STDIN_FILENO, STDOUT_FILENO};
 

@@ -1,4 +1,6 @@
 // Runs the epoch program on many inputs: a case is a length (2 bytes) and so many bytes of input; after each case's output a line "--" is printed.
+#![tactic(auto)]
+
 use config::Config;
 use libc::{STDIN_FILENO, STDOUT_FILENO};
 

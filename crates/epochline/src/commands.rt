@@ -22,6 +22,7 @@ impl Command {
 }
 
 // The call of a command.
+#[tactic(auto, unfolding(crate::specs::Output::calling))]
 pub(crate) fn calling(
     node: Node,
     command: Command,
@@ -40,6 +41,7 @@ pub(crate) fn calling(
 }
 
 // A NEWEPOCH comes over the link of its member.
+#[tactic(auto, using(crate::proofs::Turns::frame_whole), unfolding(frame::specs::Table::body_length, crate::specs::Output::calling))]
 fn heard(
     node: Node,
     j: u8,

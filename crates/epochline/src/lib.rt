@@ -1,4 +1,6 @@
 // The epoch program's library: it takes the input a byte at a time and says what is printed. It keeps a line at the most, so an input of any length is read.
+#![tactic(auto)]
+
 mod commands;
 mod printing;
 mod reading;
@@ -17,7 +19,7 @@ const SPACE: u8 = 32;
 const NOUGHT: u8 = 48;
 
 // What a line says.
-#[derive(Drop)]
+#[derive(Clone, Copy)]
 pub enum Command {
     Start,
     // a member, and the epoch of its NEWEPOCH
@@ -28,7 +30,7 @@ pub enum Command {
 }
 
 // A run of the program.
-#[derive(Drop)]
+#[derive(Clone, Copy)]
 pub struct Program {
     pub node: Node,
     // 0 before the first line, 1 while it goes on, 2 once it has ended
@@ -39,7 +41,7 @@ pub struct Program {
 }
 
 // A program, and how many bytes it prints.
-#[derive(Drop)]
+#[derive(Clone, Copy)]
 pub struct Fed {
     pub program: Program,
     pub written: usize,
@@ -72,6 +74,7 @@ impl Program {
     }
 
     // The next byte of the input.
+    #[tactic(auto, using(crate::proofs::Turns::leaves_same, crate::proofs::Turns::byte_line))]
     pub fn feed(
         self,
         byte: u8,
@@ -92,6 +95,7 @@ impl Program {
     }
 
     // The input has ended.
+    #[tactic(auto, using(crate::proofs::Turns::leaves_same, crate::proofs::Turns::end_line))]
     pub fn end(
         self,
         outbox: &mut [u8],
@@ -111,6 +115,7 @@ impl Program {
     }
 
     // A byte more of the line, while there is room for it.
+    #[tactic(auto, unfolding(crate::specs::Machine::longer))]
     fn longer(self, byte: u8) -> Program
         ensures { result ≡ longer self byte }
     {
@@ -128,6 +133,7 @@ impl Program {
     }
 
     // A line is whole.
+    #[tactic(auto, using(crate::proofs::Turns::leaves_same, crate::proofs::Turns::line_first, crate::proofs::Turns::line_later))]
     fn line_turn(
         self,
         outbox: &mut [u8],
@@ -149,6 +155,7 @@ impl Program {
     }
 
     // The first line: a configuration, or the run ends.
+    #[tactic(auto, using(crate::proofs::Turns::leaves, crate::proofs::Turns::first_ends), unfolding(crate::specs::Output::no_configuration, config::specs::Codes::number_of))]
     fn first_turn(self, out: &mut [u8; Program::PRINTED]) -> Fed
         ensures { (outbox kept signatures : List ℕ) → Leaves result outbox kept signatures out.old out.new (first_turn (machine self outbox kept signatures)) }
     {

@@ -10,6 +10,7 @@ use config::Answer;
 use node::Node;
 
 // Prints the code, the epoch, its leader and the highest number sent.
+#[tactic(auto, unfolding(crate::specs::Output::printed))]
 pub(crate) fn print_node(out: &mut [u8; Program::PRINTED], answer: Answer, node: Node) -> usize
     ensures { (out.new ≡ over out.old 0 (printed answer node)) × (result ≡ length (printed answer node)) }
 {
@@ -70,6 +71,7 @@ fn put(out: &mut [u8], at: usize, x: u32, then: u8) -> usize
 }
 
 // How many digits a number has.
+#[tactic(auto, using(crate::proofs::Decimals::more_next, crate::proofs::Decimals::length_decimal))]
 fn places(x: u32) -> usize
     ensures { (result ≡ length (decimal x)) × (1 ≤ result) × (result ≤ most_digits) }
 {

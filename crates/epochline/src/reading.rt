@@ -15,6 +15,7 @@ pub(crate) fn config_of(n: u8, f: u8, own: u8) -> Config
 }
 
 // The configuration that the first line says; one of no members where it has another shape.
+#[tactic(auto, using(crate::proofs::Decimals::number_facts), unfolding(crate::specs::Lines::config_in))]
 pub(crate) fn config_in(line: &[u8]) -> Config
     ensures { result ≡ config_in line.now }
 {
@@ -29,6 +30,7 @@ pub(crate) fn config_in(line: &[u8]) -> Config
 }
 
 // What a later line says.
+#[tactic(auto, unfolding(crate::specs::Lines::command_of))]
 pub(crate) fn command_of(line: &[u8]) -> Command
     ensures { result ≡ command_of line.now }
 {
@@ -45,6 +47,7 @@ pub(crate) fn command_of(line: &[u8]) -> Command
 }
 
 // "member epoch"
+#[tactic(auto, using(crate::proofs::Decimals::number_facts), unfolding(crate::specs::Lines::heard_in))]
 fn heard_in(line: &[u8]) -> Command
     ensures { result ≡ heard_in line.now }
 {
@@ -87,6 +90,7 @@ fn behind(s: &[u8]) -> &[u8]
 }
 
 // The place of the first space; the length where there is none.
+#[tactic(auto, using(crate::proofs::Words::space_here, crate::proofs::Words::space_next, crate::proofs::Words::space_none))]
 fn space_in(s: &[u8]) -> usize
     ensures { (result ≡ space_in s.now) × (result ≤ length s.now) }
 {
@@ -108,6 +112,7 @@ fn is_member(s: &[u8]) -> bool
 }
 
 // Whether these are digits, at most so many, of a number up to a limit, without leading zeros.
+#[tactic(auto, using(crate::proofs::Decimals::sized, crate::proofs::Decimals::number_sized))]
 fn is_number(places: usize, limit: u64, s: &[u8]) -> bool
     requires { places ≤ most_digits }
     ensures { result ≡ is_number places limit s.now }
@@ -122,6 +127,7 @@ fn is_number(places: usize, limit: u64, s: &[u8]) -> bool
     ((len == 1) | (s[0] != NOUGHT)) & (value(s) <= limit)
 }
 
+#[tactic(auto, using(crate::proofs::Decimals::digits_next), unfolding(crate::specs::Decimal::all_digits))]
 fn all_digits(s: &[u8]) -> bool
     ensures { result ≡ all_digits s.now }
 {
@@ -135,6 +141,7 @@ fn all_digits(s: &[u8]) -> bool
 }
 
 // The number that digits say.
+#[tactic(auto, using(crate::proofs::Decimals::digits_at), unfolding(crate::specs::Decimal::value_from))]
 fn value(s: &[u8]) -> u64
     requires { (length s.now ≤ most_digits) × (all_digits s.now ≡ true) }
     ensures { (result ≡ value_of s.now) × (result < 10 ^ length s.now) }

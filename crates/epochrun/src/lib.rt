@@ -1,4 +1,6 @@
 // A run of the epoch program that prints to standard output: what the two programs over it share.
+#![tactic(auto)]
+
 ghost use Rattle.std.specs.Prelude.{◌≡◌, replicate};
 ghost use Rattle.config.specs.Limits.{frame_size};
 ghost use Rattle.epochline.specs.Machine.{byte_turn, new_machine};
@@ -9,7 +11,7 @@ use epochline::Program;
 use libc::STDOUT_FILENO;
 
 // A run of the program, with the buffers that it lends to the library.
-#[derive(Drop)]
+#[derive(Clone, Copy)]
 pub struct Run {
     pub outbox: [u8; Config::FRAME],
     pub kept: [u8; Config::KEPT],

@@ -1,4 +1,6 @@
 // The epoch program: reads its input to the end and prints, after each line, the code, the epoch, the leader and the highest number sent.
+#![tactic(auto)]
+
 use config::Config;
 use libc::STDIN_FILENO;
 

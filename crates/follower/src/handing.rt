@@ -7,6 +7,7 @@ ghost use Rattle.follower.specs.Handed.{handed_of, handed_part};
 use crate::Handed;
 
 // Where the report lies that is handed out, if one is: the flag says whether one was kept as the call began.
+#[tactic(auto, using(report::proofs::Whole::report_head, report::proofs::Whole::report_list_end))]
 pub fn handed_of(out: bool, flag: u8, kept: &[u8], body: &[u8]) -> Handed
     requires { out ≡ true → WholeReport (cond (is_set flag) kept.now body.now) }
     ensures { result ≡ handed_of out (is_set flag) kept.now body.now }

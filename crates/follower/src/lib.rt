@@ -1,5 +1,7 @@
 // The follower of a reporting round: which of the leader's requests and which reports it takes, and what it does then. It writes the
 // kept buffer and no other byte, and answers what is to be sent and what is raised.
+#![tactic(auto)]
+
 mod handing;
 mod taking;
 
@@ -18,7 +20,7 @@ use report::Fault;
 
 // What a follower holds of the round it is in.
 #[repr(C)]
-#[derive(Drop)]
+#[derive(Clone, Copy)]
 pub struct Follower {
     // 1 while a report instance runs: since the last move, unless it halted
     pub live: u8,
@@ -35,7 +37,7 @@ pub struct Follower {
 }
 
 // What a follower says of a message.
-#[derive(Drop)]
+#[derive(Clone, Copy)]
 pub enum Finding {
     // its rule's conditions do not hold
     Ignored,
@@ -45,7 +47,7 @@ pub enum Finding {
 }
 
 // What a rule has the node send.
-#[derive(Drop)]
+#[derive(Clone, Copy)]
 pub enum Reply {
     Nothing,
     // the host's observation
@@ -57,7 +59,7 @@ pub enum Reply {
 }
 
 // What a rule raises for the pacemaker.
-#[derive(Drop)]
+#[derive(Clone, Copy)]
 pub enum Raised {
     Nothing,
     Progress,
@@ -65,7 +67,7 @@ pub enum Raised {
 }
 
 // What a rule did.
-#[derive(Drop)]
+#[derive(Clone, Copy)]
 pub struct Followed {
     pub follower: Follower,
     pub reply: Reply,
@@ -75,7 +77,7 @@ pub struct Followed {
 }
 
 // Where the report lies that is handed out: in the kept buffer or in the arriving frame, from `start` on; `len` is 0 where none is.
-#[derive(Drop)]
+#[derive(Clone, Copy)]
 pub struct Handed {
     // whether it lies in the kept buffer
     pub held: bool,
@@ -99,6 +101,7 @@ impl Follower {
     }
 
     // Whether every field is in its range.
+    #[tactic(auto, unfolding(crate::specs::State::good_follower))]
     pub fn good(self) -> bool
         ensures { result ≡ good_follower self }
     {
@@ -111,6 +114,7 @@ impl Follower {
     }
 
     // Whether a request halts the instance: whoever follows it raises changeleader.
+    #[tactic(auto, using(frame::proofs::Checked::checked_head, frame::proofs::Messages::by_kind), unfolding(frame::specs::Decode::message_of))]
     pub fn halts(config: Config, kind: u8, body: &[u8]) -> bool
         requires { (1 ≤ kind) × (kind ≤ 7) × (body_answer config.n kind body.now ≡ Done) }
         ensures { result ≡ halts config (message_of kind body.now) }
@@ -122,6 +126,7 @@ impl Follower {
     }
 
     // What a message does that was taken.
+    #[tactic(auto, using(frame::proofs::Messages::by_kind, frame::proofs::Checked::checked_head, frame::proofs::Checked::checked_report_req, crate::proofs::Bodies::whole_list), unfolding(frame::specs::Decode::message_of))]
     pub fn follow(
         self,
         config: Config,
@@ -154,6 +159,7 @@ impl Follower {
     }
 
     // The leader asks for observations of a round.
+    #[tactic(auto, unfolding(crate::specs::Rules::requested))]
     fn requested(self, config: Config, round: u8) -> Followed
         ensures { result ≡ requested config self round }
     {
@@ -174,6 +180,7 @@ impl Follower {
     }
 
     // The leader asks for a list of this median to be signed.
+    #[tactic(auto, unfolding(crate::specs::Rules::asked))]
     fn asked(self, config: Config, time: u64, commit: Commit, median: i64) -> Followed
         ensures { result ≡ asked config self time commit median }
     {
@@ -197,6 +204,7 @@ impl Follower {
     }
 
     // The leader sends a report that stands.
+    #[tactic(auto, unfolding(crate::specs::Rules::received))]
     fn received(self) -> Followed
         ensures { result ≡ received self }
     {
@@ -209,6 +217,7 @@ impl Follower {
     }
 
     // Member j echoes a report that stands.
+    #[tactic(auto, unfolding(crate::specs::Rules::echoed))]
     fn echoed(self, config: Config, j: u8) -> Followed
         requires { (1 ≤ j) × (j ≤ config.n) × (config.n ≤ members) }
         ensures { result ≡ echoed config self j }

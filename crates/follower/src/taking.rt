@@ -26,6 +26,7 @@ impl Finding {
 
 impl Follower {
     // What is said of a message that came from member j, in an epoch led by `leader`.
+    #[tactic(auto, unfolding(crate::specs::Takes::finding_of))]
     pub fn finding(
         self,
         config: Config,
@@ -50,6 +51,7 @@ impl Follower {
     }
 
     // Whether the conditions of the message's rule hold.
+    #[tactic(auto, using(frame::proofs::Checked::checked_head, frame::proofs::Messages::by_kind), unfolding(frame::specs::Decode::message_of))]
     fn takes(self, n: u8, epoch: u32, leader: u8, j: u8, kind: u8, body: &[u8]) -> bool
         requires { (1 ≤ kind) × (kind ≤ 7) × (body_answer n kind body.now ≡ Done) × (1 ≤ j) × (j ≤ members) }
         ensures { result ≡ takes self epoch leader j (message_of kind body.now) }
@@ -70,6 +72,7 @@ impl Follower {
         (self.live == 1) & (e == epoch)
     }
 
+    #[tactic(auto, using(crate::proofs::Rounds::later_round))]
     fn takes_request(self, epoch: u32, leader: u8, j: u8, body: &[u8]) -> bool
         requires { 5 ≤ length body.now }
         ensures { result ≡ takes self epoch leader j (observe_req (epoch_in body.now) (round_in body.now)) }
@@ -81,6 +84,7 @@ impl Follower {
         }
     }
 
+    #[tactic(auto, using(crate::proofs::Rounds::same_round))]
     fn takes_list(self, epoch: u32, leader: u8, j: u8, body: &[u8]) -> bool
         requires { 5 ≤ length body.now }
         ensures { result ≡ takes self epoch leader j (report_req (epoch_in body.now) (round_in body.now) (signed_in body.now)) }
@@ -95,6 +99,7 @@ impl Follower {
         }
     }
 
+    #[tactic(auto, using(crate::proofs::Rounds::same_round))]
     fn takes_final(self, epoch: u32, leader: u8, j: u8, body: &[u8]) -> bool
         requires { 5 ≤ length body.now }
         ensures { result ≡ takes self epoch leader j (final (attested_in body.now)) }
@@ -106,6 +111,7 @@ impl Follower {
         }
     }
 
+    #[tactic(auto, using(crate::proofs::Rounds::same_round))]
     fn takes_echo(self, epoch: u32, j: u8, body: &[u8]) -> bool
         requires { (5 ≤ length body.now) × (1 ≤ j) × (j ≤ members) }
         ensures { (leader : ℕ) → result ≡ takes self epoch leader j (final_echo (attested_in body.now)) }
@@ -121,6 +127,7 @@ impl Follower {
 }
 
 // What is wrong with a message that is taken.
+#[tactic(auto, using(frame::proofs::Messages::by_kind, crate::proofs::Bodies::whole_list, crate::proofs::Bodies::list_faults, crate::proofs::Bodies::whole_report), unfolding(frame::specs::Decode::message_of))]
 fn fault_of(n: u8, f: u8, kind: u8, body: &[u8], bits: u64) -> Fault
     requires { (1 ≤ kind) × (kind ≤ 7) × (body_answer n kind body.now ≡ Done) }
     ensures { result ≡ fault_of f bits (message_of kind body.now) }

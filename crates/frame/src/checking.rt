@@ -10,6 +10,7 @@ use config::{Answer, Config};
 
 // Checks 4 to 9: what is wrong with a frame that came over the link of member `link`, in a feed of n members with this
 // configuration number. Done where nothing is.
+#[tactic(auto, using(crate::proofs::Checks::start_short, crate::proofs::Checks::start_at), unfolding(crate::specs::Check::frame_answer, crate::specs::Check::after_short, crate::specs::Check::after_version, crate::specs::Check::after_kind, crate::specs::Check::after_sender))]
 pub fn check(frame: &[u8], n: u8, number: u64, link: u8) -> Answer
     ensures { result ≡ frame_answer frame.now n number link }
 {
@@ -70,6 +71,7 @@ pub fn check_body(kind: u8, body: &[u8], n: u8) -> Answer
     }
 }
 
+#[tactic(auto, using(crate::proofs::Checks::other_length, crate::proofs::Checks::own_length), unfolding(crate::specs::Table::body_length, crate::specs::Decode::message_of))]
 fn check_newepoch(body: &[u8], n: u8) -> Answer
     ensures { result ≡ body_answer n 1 body.now }
 {
@@ -79,6 +81,7 @@ fn check_newepoch(body: &[u8], n: u8) -> Answer
     ranged(good_epoch(reading::epoch_of(body)))
 }
 
+#[tactic(auto, using(crate::proofs::Checks::other_length, crate::proofs::Checks::own_length), unfolding(crate::specs::Table::body_length, crate::specs::Decode::message_of))]
 fn check_observe_req(body: &[u8], n: u8) -> Answer
     ensures { result ≡ body_answer n 2 body.now }
 {
@@ -88,6 +91,7 @@ fn check_observe_req(body: &[u8], n: u8) -> Answer
     ranged(good_head(body))
 }
 
+#[tactic(auto, using(crate::proofs::Checks::other_length, crate::proofs::Checks::own_length), unfolding(crate::specs::Table::body_length, crate::specs::Decode::message_of))]
 fn check_observe(body: &[u8], n: u8) -> Answer
     ensures { result ≡ body_answer n 3 body.now }
 {
@@ -97,6 +101,7 @@ fn check_observe(body: &[u8], n: u8) -> Answer
     ranged(good_head(body))
 }
 
+#[tactic(auto, using(crate::proofs::Checked::good_said, crate::proofs::Checks::other_length, crate::proofs::Checks::own_length), unfolding(crate::specs::Table::body_length, crate::specs::Decode::message_of))]
 fn check_report_req(body: &[u8], n: u8) -> Answer
     ensures { result ≡ body_answer n 4 body.now }
 {
@@ -109,6 +114,7 @@ fn check_report_req(body: &[u8], n: u8) -> Answer
     ranged(good_head(body) & good_list(body, crate::stride(4), n))
 }
 
+#[tactic(auto, using(crate::proofs::Checks::other_length, crate::proofs::Checks::own_length), unfolding(crate::specs::Table::body_length, crate::specs::Decode::message_of))]
 fn check_report(body: &[u8], n: u8) -> Answer
     ensures { result ≡ body_answer n 5 body.now }
 {
@@ -122,6 +128,7 @@ fn check_report(body: &[u8], n: u8) -> Answer
 }
 
 // Also the body alone, as sender and contract are given it.
+#[tactic(auto, using(crate::proofs::Readable::readable_exact, crate::proofs::Checks::other_length, crate::proofs::Checks::own_length), unfolding(crate::specs::Table::body_length, crate::specs::Decode::message_of))]
 pub fn check_final(body: &[u8], n: u8) -> Answer
     ensures { result ≡ body_answer n 6 body.now }
 {
@@ -137,6 +144,7 @@ pub fn check_final(body: &[u8], n: u8) -> Answer
     ranged(good_attested(body, n))
 }
 
+#[tactic(auto, unfolding(crate::specs::Check::body_answer, crate::specs::Table::body_length, crate::specs::Decode::message_of))]
 fn check_final_echo(body: &[u8], n: u8) -> Answer
     ensures { result ≡ body_answer n 7 body.now }
 {
@@ -150,6 +158,7 @@ fn ranged(good: bool) -> Answer
 }
 
 // Whether the FINAL body at the start of a slice is in range. Beyond m and s no more is read than a body in range has.
+#[tactic(auto, using(crate::proofs::Access::many_refused), unfolding(crate::specs::Table::shape_of))]
 pub fn good_attested(b: &[u8], n: u8) -> bool
     requires { Readable n b.now }
     ensures { result ≡ good_attested n (attested_in b.now) }
@@ -179,6 +188,7 @@ fn good_head(body: &[u8]) -> bool
 }
 
 // Whether m and the members of a list are in range.
+#[tactic(auto, using(crate::proofs::Access::good_entries_lem))]
 fn good_list(body: &[u8], stride: usize, n: u8) -> bool
     requires { (0 < stride) × (list_place + count_in body.now * stride ≤ length body.now) }
     ensures { result ≡ good_observations n (observations_in stride body.now) }
@@ -188,6 +198,7 @@ fn good_list(body: &[u8], stride: usize, n: u8) -> bool
 }
 
 // Whether s and the members that signed are in range.
+#[tactic(auto, using(crate::proofs::Access::good_entries_lem), unfolding(crate::specs::Table::body_length))]
 fn good_signers(body: &[u8], n: u8) -> bool
     requires { (list_end body.now < length body.now) × (body_length 6 (count_in body.now) (signer_count_in body.now) ≤ length body.now) }
     ensures { result ≡ good_signers n (signers_in body.now) }
@@ -205,6 +216,7 @@ fn good_signers(body: &[u8], n: u8) -> bool
 }
 
 // Whether each of `many` entries of `stride` bytes begins with a member's number.
+#[tactic(auto, using(crate::proofs::Access::members_in, crate::proofs::Access::members_first, crate::proofs::Access::times_first), unfolding(crate::specs::Range::all_members, crate::specs::Decode::entries))]
 pub fn members_in(b: &[u8], at: usize, stride: usize, many: usize, n: u8) -> bool
     requires { (0 < stride) × (at + many * stride ≤ length b.now) }
     ensures { result ≡ all_members n (λ x. x) (entries (λ l. get_or l 0 0) stride many (drop at b.now)) }

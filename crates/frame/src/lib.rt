@@ -1,4 +1,6 @@
 // Reading frames: the table of kinds, the checks 4 to 9 of document 01, and the parts of a body. The lengths of bodies stand here alone.
+#![tactic(auto)]
+
 mod checking;
 mod reading;
 
@@ -12,7 +14,7 @@ pub use reading::{
 };
 
 // A row of the table of kinds.
-#[derive(Drop)]
+#[derive(Clone, Copy)]
 pub struct Shape {
     // the bytes of a body with no observations and no signers
     pub base: usize,
@@ -25,7 +27,7 @@ pub struct Shape {
 }
 
 // Where a frame goes.
-#[derive(Drop)]
+#[derive(Clone, Copy)]
 pub enum Destination {
     All,
     Member(u8),
@@ -34,7 +36,7 @@ pub enum Destination {
 }
 
 // Where the body of the frame at the end of a slice starts.
-#[derive(Drop)]
+#[derive(Clone, Copy)]
 pub enum BodyStart {
     Short,
     At(usize),
@@ -96,6 +98,7 @@ pub const NEWEPOCH_FRAME: usize = TABLE[0].base + TRAILER;
 pub const LIST: usize = 6;
 
 // The row of a kind.
+#[tactic(auto, unfolding(crate::specs::Table::table, crate::specs::Table::shape_of))]
 pub fn shape_of(kind: u8) -> Shape
     requires { (1 ≤ kind) × (kind ≤ 7) }
     ensures { result ≡ shape_of kind }
@@ -105,6 +108,7 @@ pub fn shape_of(kind: u8) -> Shape
 }
 
 // How long a body of a kind is that has m observations and s signers.
+#[tactic(auto, using(crate::proofs::Readable::length_most), unfolding(crate::specs::Table::body_length, crate::specs::Table::table))]
 pub fn body_length(kind: u8, m: usize, s: usize) -> usize
     requires { (1 ≤ kind) × (kind ≤ 7) × (m ≤ 255) × (s ≤ 255) }
     ensures { result ≡ body_length kind m s }
@@ -121,6 +125,7 @@ pub fn version(n: u8) -> u16
 }
 
 // Where a frame of a kind goes, given who leads.
+#[tactic(auto, unfolding(crate::specs::Table::destination_of))]
 pub fn goes_to(kind: u8, leader: u8) -> Destination
     ensures { result ≡ destination_of kind leader }
 {

@@ -17,6 +17,7 @@ pub fn kind_of(frame: &[u8]) -> u8
 }
 
 // Its body.
+#[tactic(auto, using(crate::proofs::Checks::start_short, crate::proofs::Checks::start_at))]
 pub fn body_of(frame: &[u8]) -> &[u8]
     requires { too_short frame.now ≡ false }
     ensures { result.now ≡ body_in frame.now }
@@ -29,6 +30,7 @@ pub fn body_of(frame: &[u8]) -> &[u8]
 }
 
 // Where the body starts of the frame that ends with the slice.
+#[tactic(auto, unfolding(crate::specs::Check::body_start))]
 pub fn body_start(frame: &[u8]) -> BodyStart
     ensures { result ≡ body_start frame.now }
 {
@@ -66,6 +68,7 @@ pub fn value_of(body: &[u8]) -> i64
 }
 
 // The signature of an OBSERVE.
+#[tactic(auto, unfolding(crate::specs::Table::body_length))]
 pub fn observe_signature(body: &[u8]) -> &[u8]
     requires { body_length 3 0 0 ≤ length body.now }
     ensures { result.now ≡ observe_signature body.now }
@@ -84,6 +87,7 @@ pub fn count_of(body: &[u8]) -> usize
 }
 
 // The member of observation i, in a list whose entries have this stride.
+#[tactic(auto, using(crate::proofs::Access::entry_in, crate::proofs::Access::entry_at, crate::proofs::Access::first_of_part), unfolding(crate::specs::Table::shape_of))]
 pub fn member_at(body: &[u8], stride: usize, i: usize) -> u8
     requires { ListIn stride i body.now }
     ensures { result ≡ (get_or (observations_in stride body.now) i no_observation).member }
@@ -92,6 +96,7 @@ pub fn member_at(body: &[u8], stride: usize, i: usize) -> u8
 }
 
 // Its value.
+#[tactic(auto, using(crate::proofs::Access::entry_in, crate::proofs::Access::entry_at, crate::proofs::Access::part_of_part), unfolding(crate::specs::Table::shape_of))]
 pub fn value_at(body: &[u8], stride: usize, i: usize) -> i64
     requires { ListIn stride i body.now }
     ensures { result ≡ (get_or (observations_in stride body.now) i no_observation).value }
@@ -100,6 +105,7 @@ pub fn value_at(body: &[u8], stride: usize, i: usize) -> i64
 }
 
 // Where a list of bare observations ends: at the signature of a REPORT, at s of a FINAL.
+#[tactic(auto, unfolding(crate::specs::Table::shape_of))]
 pub fn list_end(body: &[u8]) -> usize
     requires { list_place ≤ length body.now }
     ensures { result ≡ list_end body.now }
@@ -108,6 +114,7 @@ pub fn list_end(body: &[u8]) -> usize
 }
 
 // The signature of a REPORT.
+#[tactic(auto, using(crate::proofs::Access::part_from), unfolding(crate::specs::Table::body_length))]
 pub fn report_signature(body: &[u8]) -> &[u8]
     requires { (list_place ≤ length body.now) × (body_length 5 (count_in body.now) 0 ≤ length body.now) }
     ensures { result.now ≡ report_signature body.now }
@@ -127,6 +134,7 @@ pub fn signer_count(body: &[u8]) -> usize
 }
 
 // The member of signer i.
+#[tactic(auto, using(crate::proofs::Access::entry_at, crate::proofs::Access::first_of_part), unfolding(crate::specs::Table::body_length, crate::specs::Table::shape_of))]
 pub fn signer_at(body: &[u8], i: usize) -> u8
     requires { SignersIn i body.now }
     ensures { result ≡ (get_or (signers_in body.now) i no_signer).member }

@@ -1,5 +1,7 @@
 // Reads frame cases from standard input and prints a line for each: the code that checking a frame gives and what the frame says, or
 // the outbox after a frame was written. A case is its length (2 bytes) and so many bytes; `reference/frames.py` describes them.
+#![tactic(auto)]
+
 mod reading;
 mod writing;
 

@@ -16,6 +16,7 @@ pub fn read(case: &[u8]) {
     read_frame(case[1], case[2], wire::get_u64(case, 3), &case[FRAME..]);
 }
 
+#[tactic(auto, using(config::proofs::Facts::done_only, frame::proofs::Ranges::one_to, frame::proofs::Framed::checked_frame))]
 fn read_frame(n: u8, link: u8, number: u64, frame: &[u8]) {
     let answer = frame::check(frame, n, number, link);
     io::print_decimal(STDOUT_FILENO, answer.number() as u64);
@@ -25,6 +26,7 @@ fn read_frame(n: u8, link: u8, number: u64, frame: &[u8]) {
 }
 
 // What a body of its kind's length says.
+#[tactic(auto, unfolding(frame::specs::Table::body_length, frame::specs::Table::shape_of, frame::specs::Table::table))]
 fn say(kind: u8, body: &[u8])
     requires { (1 ≤ kind) × (kind ≤ 7) × (length body.now ≡ body_length kind (count_in body.now) (signer_count_in body.now)) }
 {
@@ -69,6 +71,7 @@ fn say_list(body: &[u8], stride: usize)
 }
 
 // What a list says, then s and the member of each signer.
+#[tactic(auto, unfolding(frame::specs::Table::body_length, frame::specs::Table::shape_of, frame::specs::Table::table))]
 fn say_final(body: &[u8])
     requires { body_length 6 (count_in body.now) (signer_count_in body.now) ≤ length body.now }
 {

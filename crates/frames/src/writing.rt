@@ -147,6 +147,7 @@ fn put_report_req(outbox: &mut [u8], at: usize, config: Config, said: &[u8]) -> 
 }
 
 // The tables are the values of members 1 to n, and then their signatures.
+#[tactic(auto, using(crate::proofs::Cases::signatures_long))]
 fn put_requested(
     outbox: &mut [u8],
     at: usize,
@@ -228,6 +229,7 @@ fn put_final(outbox: &mut [u8], at: usize, config: Config, said: &[u8]) -> usize
     )
 }
 
+#[tactic(auto, using(crate::proofs::Cases::signatures_long))]
 fn put_attested(
     outbox: &mut [u8],
     at: usize,
@@ -267,6 +269,7 @@ fn put_attested(
 }
 
 // The body of the FINAL that is echoed.
+#[tactic(auto, unfolding(frame::specs::Table::body_length, frame::specs::Table::shape_of, frame::specs::Table::table))]
 fn put_final_echo(outbox: &mut [u8], at: usize, config: Config, said: &[u8]) -> usize
     requires { at + trailer_length ≤ length outbox.old }
 {
@@ -301,6 +304,7 @@ fn counted(x: u8) -> usize
 }
 
 // Whether each of these is one of n members.
+#[tactic(auto, using(crate::proofs::Cases::entries_one))]
 fn good_members(order: &[u8], n: u8) -> bool
     ensures { result ≡ all_members n (λ x. x) order.now }
 {

@@ -1,10 +1,5 @@
 -- A refusal changes nothing: what node, sender and contract claim of their calls by value, carried to the lent structs; and instances that compute.
-use mathlib.Core.Path.{◌≡◌, refl, ap}
-use mathlib.Core.Bool.{false}
-use mathlib.Core.List.{List, [], ◌∷◌}
-use Prim.Native.Nat.{ℕ}
-use lib.Dec.{ltb}
-use lib.IntN.{pos}
+use Rattle.std.proofs.Common.{◌≡◌, ℕ, false, ltb, List, [], ◌∷◌, pos, refl, ap}
 use Rattle.node.specs.declared.Timers.{Timers}
 use Rattle.node.specs.State.{restored_node, nothing_saved}
 use Rattle.node.specs.Event.{Event, whole, delivery, starts, delivers, fires}

@@ -1,6 +1,2 @@
--- What the walks of the exported functions share, and the claims.
-pub mod Locals
-pub mod InPlace
-pub mod Exported
-pub mod Answers
+-- The claims, proved.
 pub mod Claims

@@ -51,6 +51,7 @@ pub extern "C" fn wederburh_contract_withdraw(lent: &mut LentContract, member: u
     lent.outcome.answer
 }
 
+#[tactic(auto, unfolding(crate::specs::Calls::contract_fresh_at))]
 fn fresh_contract(lent: LentContract) -> LentContract
     ensures { result ≡ contract_fresh_at lent }
 {
@@ -58,6 +59,7 @@ fn fresh_contract(lent: LentContract) -> LentContract
     after_making(lent, Contract::fresh(contract.terms))
 }
 
+#[tactic(auto, unfolding(crate::specs::Calls::submit_at))]
 fn submit_body(
     lent: LentContract,
     body: &[u8],
@@ -71,6 +73,7 @@ fn submit_body(
     after_submit(contract.submit(body, transmitter, time, bits))
 }
 
+#[tactic(auto, unfolding(crate::specs::Calls::deposit_at))]
 fn deposit_in(lent: LentContract, amount: u64) -> LentContract
     ensures { result ≡ deposit_at lent amount }
 {
@@ -78,6 +81,7 @@ fn deposit_in(lent: LentContract, amount: u64) -> LentContract
     after_deposit(contract.deposit(amount))
 }
 
+#[tactic(auto, unfolding(crate::specs::Calls::withdraw_at))]
 fn withdraw_for(lent: LentContract, member: u8) -> LentContract
     ensures { result ≡ withdraw_at lent member }
 {

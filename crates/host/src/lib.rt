@@ -1,5 +1,7 @@
 // The boundary to C: every call of a node, a sender and a contract, over structs of numbers that the host lends. Any bytes in them are a
 // value. A call's results stand in the lent struct's outcome, and its code is returned as well; a refusal changes nothing else.
+#![tactic(auto)]
+
 mod contract_calls;
 mod node_calls;
 mod sender_calls;
@@ -22,7 +24,7 @@ pub use sender_calls::{
 
 // What a call of a node came to.
 #[repr(C)]
-#[derive(Drop)]
+#[derive(Clone, Copy)]
 pub struct NodeOutcome {
     // how many bytes of frames stand in the outbox, from the position on
     pub written: usize,
@@ -41,7 +43,7 @@ pub struct NodeOutcome {
 }
 
 #[repr(C)]
-#[derive(Drop)]
+#[derive(Clone, Copy)]
 pub struct LentNode {
     // the state; a fresh or restored one is made of the configuration in it
     pub node: Node,
@@ -53,7 +55,7 @@ pub struct LentNode {
 
 // What a call of a sender came to.
 #[repr(C)]
-#[derive(Drop)]
+#[derive(Clone, Copy)]
 pub struct SenderOutcome {
     // after how many milliseconds T_transmit is to fire, where it is set
     pub milliseconds: u64,
@@ -67,7 +69,7 @@ pub struct SenderOutcome {
 }
 
 #[repr(C)]
-#[derive(Drop)]
+#[derive(Clone, Copy)]
 pub struct LentSender {
     // the state; a fresh one is made of the configuration in it
     pub sender: Sender,
@@ -78,7 +80,7 @@ pub struct LentSender {
 
 // What a call of a contract came to.
 #[repr(C)]
-#[derive(Drop)]
+#[derive(Clone, Copy)]
 pub struct ContractOutcome {
     // what is to be paid to the member who withdraws
     pub amount: u64,
@@ -92,7 +94,7 @@ pub struct ContractOutcome {
 }
 
 #[repr(C)]
-#[derive(Drop)]
+#[derive(Clone, Copy)]
 pub struct LentContract {
     // the state; a fresh one is made of the terms in it
     pub contract: Contract,

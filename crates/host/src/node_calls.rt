@@ -85,6 +85,7 @@ fn fresh_node(lent: LentNode) -> LentNode
     restore_node(lent, 0, 0)
 }
 
+#[tactic(auto, unfolding(crate::specs::Calls::restore_at))]
 fn restore_node(lent: LentNode, epoch: u32, highest: u32) -> LentNode
     ensures { result ≡ restore_at lent epoch highest }
 {
@@ -92,6 +93,7 @@ fn restore_node(lent: LentNode, epoch: u32, highest: u32) -> LentNode
     lent.made(Node::restore(node.config, Saved { epoch, highest }))
 }
 
+#[tactic(auto, unfolding(crate::specs::Calls::start_at))]
 fn start_node(
     lent: LentNode,
     time: u64,
@@ -106,6 +108,7 @@ fn start_node(
     lent.called(node.start(time, outbox, at, kept, signatures))
 }
 
+#[tactic(auto, unfolding(crate::specs::Calls::deliver_at))]
 fn deliver_to(
     lent: LentNode,
     link: u8,
@@ -134,6 +137,7 @@ fn deliver_to(
     ))
 }
 
+#[tactic(auto, unfolding(crate::specs::Calls::timer_at))]
 fn fire_timer(
     lent: LentNode,
     timer: u8,
@@ -150,6 +154,7 @@ fn fire_timer(
 }
 
 // The timers by their numbers; one that is none of the four is never armed.
+#[tactic(auto, unfolding(crate::specs::Calls::timer_call))]
 fn timer_call(
     node: Node,
     timer: u8,

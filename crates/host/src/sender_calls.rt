@@ -40,6 +40,7 @@ pub extern "C" fn wederburh_sender_timeout(lent: &mut LentSender, time: u64, wai
     lent.outcome.answer
 }
 
+#[tactic(auto, unfolding(crate::specs::Calls::sender_fresh_at))]
 fn fresh_sender(lent: LentSender) -> LentSender
     ensures { result ≡ sender_fresh_at lent }
 {
@@ -47,6 +48,7 @@ fn fresh_sender(lent: LentSender) -> LentSender
     lent.made(Sender::fresh(sender.config))
 }
 
+#[tactic(auto, unfolding(crate::specs::Calls::transmit_at))]
 fn transmit_body(
     lent: LentSender,
     body: &[u8],
@@ -60,6 +62,7 @@ fn transmit_body(
     lent.queued(sender.transmit(body, time, lent.commit, permutation, waiting))
 }
 
+#[tactic(auto, unfolding(crate::specs::Calls::timeout_at))]
 fn time_out(lent: LentSender, time: u64, waiting: &[u8]) -> LentSender
     ensures { result ≡ timeout_at lent time waiting.now }
 {

@@ -1,5 +1,7 @@
 // The images of docs/REPLAY.md: what stands at each place of the bytes of a sender, a contract and each part of a node, with a reader `.._at`
 // and a writer `put_..` for each, and the memory that holds them. It does not rest on `node`, so that the two are proved side by side.
+#![tactic(auto)]
+
 mod contract_image;
 pub mod memory;
 mod node_parts;

@@ -30,7 +30,7 @@ pub const WAITING_AT: usize = SIGNATURES_AT + SIGNATURES_ROOM;
 pub const SIZE: usize = WAITING_AT + WAITING_ROOM;
 
 // How long each buffer is.
-#[derive(Drop)]
+#[derive(Clone, Copy)]
 pub struct Lengths {
     pub outbox: usize,
     pub kept: usize,

@@ -15,6 +15,7 @@ use crate::{Leader, listing};
 
 impl Leader {
     // Whether the list of a REPORT is the leader's own.
+    #[tactic(auto, using(frame::proofs::Checked::checked_report))]
     pub(crate) fn same_list(self, n: u8, body: &[u8]) -> bool
         requires { (n ≤ members) × (body_answer n 5 body.now ≡ Done) }
         ensures { result ≡ same_list (observations_in (shape_of 5).entry body.now) (list_of n self) }
@@ -29,6 +30,7 @@ impl Leader {
 }
 
 // Whether the list of a REPORT has these members, in this order, each with its value.
+#[tactic(auto, using(frame::proofs::Entries::length_entries, crate::proofs::Lines::same_apart, crate::proofs::Lines::length_own, crate::proofs::Lines::same_next, crate::proofs::Lines::same_end))]
 fn same_entries(body: &[u8], own: &[u8], values: &[i64]) -> bool
     requires { WholeList (shape_of 5).entry body.now }
     ensures { result ≡ same_list (observations_in (shape_of 5).entry body.now) (observations own.now values.now) }

@@ -9,6 +9,7 @@ use config::Config;
 
 impl Leader {
     // Writes REPORT-REQ with the list.
+    #[tactic(auto, using(crate::proofs::Lines::holds_within, crate::proofs::Marked::order_members))]
     pub fn write_request(
         self,
         config: Config,
@@ -38,6 +39,7 @@ impl Leader {
     }
 
     // Writes FINAL with the list and the lowest f + 1 signers.
+    #[tactic(auto, using(crate::proofs::Lines::holds_within, crate::proofs::Marked::order_members, crate::proofs::Marked::lowest_members))]
     pub fn write_final(
         self,
         config: Config,

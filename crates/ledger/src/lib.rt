@@ -1,4 +1,6 @@
 // The money of a contract: a fund, what members have earned, and what they were paid. It knows places, not members.
+#![tactic(auto)]
+
 ghost use Rattle.std.specs.Prelude.{◌≡◌, ◌+◌, ◌≤◌, ◌<◌, ◌^◌, leb};
 ghost use Rattle.config.specs.Limits.{members};
 ghost use Rattle.ledger.specs.Ledger.{added, credited, emptied, account_at, balances, paid_out, covered, empty_ledger, depositing, earning, withdrawing};
@@ -7,7 +9,7 @@ use config::Config;
 
 // One member's money.
 #[repr(C)]
-#[derive(Drop)]
+#[derive(Clone, Copy)]
 pub struct Account {
     // what it has earned and not withdrawn
     pub balance: u64,
@@ -16,7 +18,7 @@ pub struct Account {
 }
 
 #[repr(C)]
-#[derive(Drop)]
+#[derive(Clone, Copy)]
 pub struct Ledger {
     // what fees are paid out of
     pub fund: u64,
@@ -42,6 +44,7 @@ impl Ledger {
 
     // Whether the deposits cover what the fund has, what was earned and what was paid. No sum of these numbers can wrap: each is taken
     // off what is left of the deposits.
+    #[tactic(auto, unfolding(crate::specs::Ledger::covered))]
     pub fn covered(self) -> bool
         ensures { result ≡ covered self }
     {
@@ -64,6 +67,7 @@ impl Ledger {
     }
 
     // An amount is earned at a place, out of the fund.
+    #[tactic(auto, unfolding(crate::specs::Ledger::earning))]
     pub fn earn(self, place: usize, amount: u64) -> Ledger
         requires { (place < members) × (amount ≤ self.fund) }
         ensures { result ≡ earning self place amount }
@@ -86,6 +90,7 @@ impl Ledger {
     }
 
     // The balance of a place is paid out.
+    #[tactic(auto, unfolding(crate::specs::Ledger::withdrawing))]
     pub fn withdraw(self, place: usize) -> Ledger
         requires { place < members }
         ensures { result ≡ withdrawing self place }
@@ -99,6 +104,7 @@ impl Ledger {
 }
 
 // Whether so much covers every balance and all that was paid.
+#[tactic(auto, unfolding(crate::specs::Ledger::balances, crate::specs::Ledger::paid_out))]
 fn covers(accounts: [Account; Config::MEMBERS], most: u64) -> bool
     ensures { result ≡ leb (balances accounts + paid_out accounts) most }
 {

@@ -1,11 +1,11 @@
 -- A frame that brings a report: the report's body stands at its start.
-use mathlib.Core.Path.{◌≡◌, sym, ap, ◌∙◌}
+use mathlib.Core.Path.{◌≡◌, refl, sym, ap, ◌∙◌}
 use mathlib.Core.Bool.{true}
 use mathlib.Core.List.{List, [], ◌++◌, append-nil}
 use Prim.Native.Nat.{ℕ, ◌-◌}
 use lib.ListN.{length}
 use Rattle.wire.specs.Numbers.{Bytes}
-use Rattle.frame.specs.Message.{Attested, Message, final, final_echo, kind_of}
+use Rattle.frame.specs.Message.{Attested, Message, new_epoch, observe_req, observe, report_req, report, final, final_echo, kind_of}
 use Rattle.frame.specs.Table.{version_of}
 use Rattle.frame.specs.Encode.{attested_bytes, body_bytes, trailer_bytes, frame_bytes}
 use Rattle.frame.specs.Decode.{length_in, trailer_place, kind_in, body_in, message_in}
@@ -20,18 +20,25 @@ use Rattle.node.specs.declared.Node.{Node}
 use Rattle.node.specs.Event.{Delivery}
 use Rattle.node.proofs.Ruled.{Says, said_range, said_well}
 
+-- only a report and its echo carry one
+carried_each : (P : Message → Type 0) (m : Message) (a : Attested) → Carries m a → P (final a) → P (final_echo a) → P m
+carried_each P (final b) a c p q = rw c p
+carried_each P (final_echo b) a c p q = rw c q
+carried_each P (new_epoch _) a c p q = elim c [ ]
+carried_each P (observe_req _ _) a c p q = elim c [ ]
+carried_each P (observe _ _ _ _) a c p q = elim c [ ]
+carried_each P (report_req _ _ _) a c p q = elim c [ ]
+carried_each P (report _ _ _ _) a c p q = elim c [ ]
+
 carried_bytes : (m : Message) (a : Attested) → Carries m a → body_bytes m ≡ attested_bytes a
 unfolding body_bytes
-carried_bytes (final b) a c = ap attested_bytes c
-carried_bytes (final_echo b) a c = ap attested_bytes c
+carried_bytes m a c = carried_each (λ (x : Message). body_bytes x ≡ attested_bytes a) m a c refl refl
 
 carried_good : (n : ℕ) (m : Message) (a : Attested) → Carries m a → good_message n m ≡ true → good_attested n a ≡ true
-carried_good n (final b) a c h = ap (good_attested n) (sym c) ∙ h
-carried_good n (final_echo b) a c h = ap (good_attested n) (sym c) ∙ h
+carried_good n m a c = carried_each (λ (x : Message). good_message n x ≡ true → good_attested n a ≡ true) m a c (λ h. h) (λ h. h)
 
 carried_writable : (m : Message) (a : Attested) → Carries m a → Writable m → WritableAttested a
-carried_writable (final b) a c w = rw (← c) w
-carried_writable (final_echo b) a c w = rw (← c) w
+carried_writable m a c = carried_each (λ (x : Message). Writable x → WritableAttested a) m a c (λ w. w) (λ w. w)
 
 module _ (n : Node) (d : Delivery) (m : Message) (a : Attested) (s : Says n d m) (c : Carries m a) (typed : Bytes d.frame) where
   pub brought_good : good_attested n.config.n a ≡ true

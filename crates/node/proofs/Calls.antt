@@ -67,10 +67,10 @@ module _ (w : Whole) (e : Event) (outbox : List ℕ) (at : ℕ) (h : is_done (ca
   call_done : is_done (answer_to (in_room w outbox at) w e) ≡ true
   call_done = ap is_done (sym (called_answer w e outbox at)) ∙ h
 
-  pub call_room : in_room w outbox at ≡ true
+  call_room : in_room w outbox at ≡ true
   call_room = (state_passed (in_room w outbox at) w.node w.kept (event_answer w.node e) call_done).roomy
 
-  pub call_step : step w e ≡ done (effect_of w e)
+  call_step : step w e ≡ done (effect_of w e)
   unfolding step
   call_step = let d : is_done (answer_to true w e) ≡ true = rw call_room at call_done in rw d
 

@@ -118,7 +118,7 @@ run_rises : (n f : ℕ) (p : Pace) (ms : List Heard) → FromMembers n ms → p.
 unfolding pacemaker.run
 run_rises n f p [] m = le_refl _
 run_rises n f p (x ∷ ms) (low, high, m) =
-    le_trans (nothing_falls n f p _ (by_newepoch x.from x.number low high)).epoch (run_rises n f _ ms m)
+    le_trans (nothing_falls n f p _ (by_newepoch x.from x.number low high)).epoch (run_rises n f (new_epoch_of n f p x.from x.number).pace ms m)
 
 abbrev pub pace_after : Whole → List Heard → Pace
 pace_after w ms = pacemaker.run w.node.config.n w.node.config.f w.node.pace ms

@@ -76,12 +76,12 @@ reply_answers c s j time commit kind b low high =
 
 -- ---- what is raised
 
-abbrev pub changes : Raised → Bool
+abbrev changes : Raised → Bool
 changes raised.Nothing = false
 changes raised.Progress = false
 changes raised.ChangeLeader = true
 
-pub changes_halts : (c : Config) (s : Follower) (j time : ℕ) (commit : Commit) (m : Message) → changes (follow_of c s j time commit m).raised ≡ halts c m
+changes_halts : (c : Config) (s : Follower) (j time : ℕ) (commit : Commit) (m : Message) → changes (follow_of c s j time commit m).raised ≡ halts c m
 unfolding requested received
 changes_halts c s j time commit (observe_req e r) = go (ltb c.r_max r)
   where

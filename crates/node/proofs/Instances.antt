@@ -38,7 +38,7 @@ use Rattle.pacemaker.specs.Rules as pacemaker
 use Rattle.follower.specs.declared.Follower.{Follower}
 use Rattle.follower.specs.State.{good_follower, in_round}
 use Rattle.follower.specs.Takes.{finding_of}
-use Rattle.follower.specs.Rules.{requested, now_signed, asked as asked_for}
+use Rattle.follower.specs.Rules.{requested, asked as asked_for}
 use Rattle.leader.specs.declared.Leader.{Leader}
 use Rattle.leader.specs.State.{collecting, in_grace, good_leader, empty_round, no_round}
 use Rattle.leader.specs.Listed.{marked_up_to, order}
@@ -295,18 +295,14 @@ unfolding roomy
 third_stands =
     rw third_sends at (frames_stand nearly (delivers third) (effect_of nearly (delivers third)) longer 3 nearly_typed third_typed refl third_done)
 
--- the OBSERVE answers the request, with the host's observation, and the node is in round 1
+-- the OBSERVE answers the request, with the host's observation
+request_signed : AnswersRequest request 1 1 (pos 105) own_signature
+request_signed = (rw request_answered at (signs_only_what_it_answers moved (delivers request) (effect_of moved (delivers request)) request_done)).0
+
+-- in round 1 the leader lists three observations, whose signatures verified: nothing is committed yet, so the node reports them
 abbrev in_first : Whole
 in_first = lent (in_epoch_lem (in_round 1 1) (empty_round collecting 1 1))
 
-request_leaves : (effect_of moved (delivers request)).whole_after.node ≡ in_first.node
-unfolding request message_of frame_bytes body_bytes head_bytes trailer_bytes be_bytes be_number be_from following requested
-request_leaves = refl
-
-request_signed : AnswersRequest moved.node in_first.node request 1 1 (pos 105) own_signature
-request_signed = (rw (request_answered, request_leaves) at (signs_only_what_it_answers moved (delivers request) (effect_of moved (delivers request)) request_done)).0
-
--- there the leader lists three observations, whose signatures verified: nothing is committed yet, so the node reports them
 abbrev three : List Signed
 three = map (λ (o : Observation). record { said = o; signature = blank }) (record { member = 3; value = pos 100 } ∷ record { member = 4; value = pos 105 } ∷ record { member = 1; value = pos 107 } ∷ [])
 
@@ -321,16 +317,8 @@ listing_answered : (effect_of in_first (delivers listing)).sent ≡ report 1 1 (
 unfolding listing shape_of message_of entries frame_bytes body_bytes counted_bytes flat signed_bytes observation_bytes head_bytes trailer_bytes be_bytes be_number be_from following asked_for should_report
 listing_answered = refl
 
--- of this round it has then signed one
-abbrev signed_first : Node
-signed_first = in_epoch_lem (now_signed (in_round 1 1)) (empty_round collecting 1 1)
-
-listing_leaves : (effect_of in_first (delivers listing)).whole_after.node ≡ signed_first
-unfolding listing shape_of message_of entries frame_bytes body_bytes counted_bytes flat signed_bytes observation_bytes head_bytes trailer_bytes be_bytes be_number be_from following asked_for should_report
-listing_leaves = refl
-
-listing_signed : AnswersList in_first.node signed_first listing 1 1 (map (λ (x : Signed). x.said) three) own_signature
-listing_signed = (rw (listing_answered, listing_leaves) at (signs_only_what_it_answers in_first (delivers listing) (effect_of in_first (delivers listing)) listing_done)).0
+listing_signed : AnswersList listing 1 1 (map (λ (x : Signed). x.said) three) own_signature
+listing_signed = (rw listing_answered at (signs_only_what_it_answers in_first (delivers listing) (effect_of in_first (delivers listing)) listing_done)).0
 
 -- the request for reports is read back too
 pub graced_sized : Sized graced

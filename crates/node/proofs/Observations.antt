@@ -137,8 +137,8 @@ fresh_more w o os long new f =
     let high : o.from ≤ length s.observed = omega arith in
     record {
       from = (new.least, new.most, new.long, f.from);
-      none = (new.unmarked, none_before w.node.config.n o.from s.observed new.least high s _ refl next os f.none);
-      apart = cons_distinct o.from (from_of os) (none_other w.node.config.n o.from s.observed new.least high s _ refl next os f.none) f.apart;
+      none = (new.unmarked, none_before w.node.config.n o.from s.observed new.least high s (seen w o).node.leader refl next os f.none);
+      apart = cons_distinct o.from (from_of os) (none_other w.node.config.n o.from s.observed new.least high s (seen w o).node.leader refl next os f.none) f.apart;
     }
 
 pub all_fresh : (w : Whole) (ds : List Delivery) → length w.node.leader.observed ≡ members → AllOf 3 w ds → Fresh w.node.config w.node.leader (observations ds)

@@ -2,18 +2,18 @@
 use mathlib.Core.Bool.{Bool, true, false, ◌&&◌}
 use mathlib.Core.List.{List}
 use mathlib.Core.Path.{◌≡◌}
-use Prim.Native.Nat.{ℕ, ◌+◌, ◌≤◌}
+use Prim.Native.Nat.{ℕ, ◌+◌, ◌≤◌, ◌<◌}
 use borrow.Author.Tests.{leb-true, le-ltb}
 use lib.Dec.{leb}
 use lib.ListN.{length}
-use Rattle.config.specs.Limits.{outbox_size, kept_size, signatures_size}
+use Rattle.config.specs.Limits.{members, outbox_size, kept_size, signatures_size}
 use Rattle.config.specs.Bounds.{good_config}
 use Rattle.config.specs.Codes.{is_done}
 use Rattle.config.specs.declared.Answer.{Answer}
 use Rattle.config.specs.declared.Answer.TheVariants.{Done}
 use Rattle.config.specs.declared.Commit.{Commit}
 use Rattle.config.specs.declared.Config.{Config}
-use Rattle.config.proofs.Facts.{and-true}
+use Rattle.config.proofs.Facts.{good_facts, and-true}
 use Rattle.frame.specs.Decode.{kind_in, body_in, attested_in}
 use Rattle.frame.specs.Range.{good_attested}
 use Rattle.frame.specs.Check.{frame_answer}
@@ -25,6 +25,15 @@ use Rattle.node.specs.State.{good_node, good_kept, good_state, roomy}
 use Rattle.node.specs.Answers.{ending, timer_answer, delivery_answer, after_state}
 use Rattle.node.specs.Ready.{Room, Sound, Taken}
 use Rattle.node.proofs.Checks.{state_passed, state_config, timer_passed, delivery_passed}
+
+-- ---- members
+
+-- how many members a configuration in range has
+pub members_some : (c : Config) → good_config c ≡ true → 0 < c.n
+members_some c h = (good_facts c h).feed.members.some
+
+pub members_most : (c : Config) → good_config c ≡ true → c.n ≤ members
+members_most c h = (good_facts c h).feed.members.most
 
 -- ---- bodies
 

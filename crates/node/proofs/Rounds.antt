@@ -36,14 +36,14 @@ use Rattle.leader.specs.declared.Asking.{Asking}
 use Rattle.leader.specs.declared.Asking.TheVariants as asking
 use Rattle.leader.specs.Rules.{no_signatures}
 use Rattle.node.specs.declared.Node.{Node}
-use Rattle.node.specs.State.{epoch_of, leader_now, leads}
+use Rattle.node.specs.State.{with_round, epoch_of, leader_now, leads}
 use Rattle.node.specs.Event.{Whole, Event, Effect, done}
 use Rattle.node.specs.Effects.{announced, asking_for, answering, replying, pacing, begun, moving, raising, following, leading}
 use Rattle.node.specs.Calls.{step}
 use Rattle.node.specs.Runs.{settled_in, after, run, sent_by, sent_in, arriving, handed_by, handed_in}
 use Rattle.node.specs.Claims.{count_observes, FewRoundsAnEpoch, Waits, RestoredWaitsForAMove}
 use Rattle.node.proofs.Sent.{announced_each}
-use Rattle.node.proofs.Turns.{Turn, paced, moved, followed, led, step_turns, leaves, raising_epoch}
+use Rattle.node.proofs.Turns.{Turn, paced, moved, followed, led, step_turns, raising_epoch}
 use Rattle.node.proofs.Runs.{config_after}
 
 -- ---- no epoch falls
@@ -132,7 +132,10 @@ module _ (epoch : ℕ) where
             let other = eqb-false e epoch q in
             record { past = λ h. omega (arith, g.past (omega arith)); now = λ h. absurd (other (omega arith)); all = omega (arith, g.all) }
 
--- what the follower's rule sends
+-- what the follower's rule leaves and sends
+abbrev pub leaves : Node → Followed → Node
+leaves n r = with_round n (raising r.raised n.pace).pace r.follower
+
 abbrev sends : Node → ℤ → Message → Followed → List Message
 sends n v m r = announced (raising r.raised n.pace).sent ++ replying v m r.reply
 

@@ -18,15 +18,13 @@ use Rattle.pacemaker.specs.Rules.{start_of, resend_of, change_leader_of, progres
 use Rattle.pacemaker.specs.Runs as pacemaker
 use Rattle.pacemaker.specs.Runs.{Next}
 use Rattle.pacemaker.proofs.Claims.{nothing_falls, tells_what_rose}
-use Rattle.follower.specs.declared.Followed.{Followed}
 use Rattle.follower.specs.declared.Raised.{Raised}
 use Rattle.follower.specs.declared.Raised.TheVariants as raised
 use Rattle.follower.specs.declared.Finding.TheVariants.{Taken}
 use Rattle.follower.specs.Takes.{finding_of}
 use Rattle.leader.specs.declared.Led.{Led}
 use Rattle.leader.proofs.Taken.{grace_leads, taken_observe, taken_report}
-use Rattle.node.specs.declared.Node.{Node}
-use Rattle.node.specs.State.{with_round, epoch_of, leader_now, leads}
+use Rattle.node.specs.State.{epoch_of, leader_now, leads}
 use Rattle.node.specs.Event.{Whole, Delivery, Event, delivers, Effect, Step, refused, done}
 use Rattle.node.specs.Effects.{pacing, moving, raising, following, leading, effect_of}
 use Rattle.node.specs.Calls.{step}
@@ -55,10 +53,7 @@ module _ (n f : ℕ) (p : Pace) (j x : ℕ) where
   unmoved_stays t e =
       omega (arith, ltb-false p.epoch (new_epoch_of n f p j x).pace.epoch (sym (tells_what_rose n f p j x).moved ∙ e), (nothing_falls n f p _ t).epoch)
 
--- ---- what the follower's rule leaves: what it raises is run too, and leaves the epoch
-
-abbrev pub leaves : Node → Followed → Node
-leaves n r = with_round n (raising r.raised n.pace).pace r.follower
+-- ---- what the follower raises leaves the epoch
 
 pub raising_next : (n f : ℕ) (x : Raised) (p : Pace) → ((raising x p).pace ≡ p) ⊎ Next n f p (raising x p).pace
 raising_next n f raised.Nothing p = inl refl

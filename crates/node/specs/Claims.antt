@@ -1,6 +1,6 @@
 -- What a reader may quote of the node: each claim is a type. The proof of `AClaim` is `a-claim`, in a file of `proofs/` named for its subject; `proofs/Instances.antt` and
 -- `proofs/Rounded.antt` have runs that compute and meet the claims' hypotheses.
-use Rattle.std.specs.Prelude.{◌≡◌, Bool, true, false, cond, ◌&&◌, List, [], ◌∷◌, map, ℕ, ◌+◌, ◌-◌, ◌*◌, ◌≤◌, ◌<◌, max, eqb, ℤ, length, get_or, take, drop}
+use Rattle.std.specs.Prelude.{◌≡◌, Bool, true, false, cond, ◌&&◌, List, [], ◌∷◌, map, ℕ, ◌+◌, ◌-◌, ◌*◌, ◌≤◌, max, eqb, ℤ, length, get_or, take, drop}
 use Rattle.config.specs.Limits.{kept_size, signatures_size}
 use Rattle.config.specs.Bounds.{good_time, good_commit}
 use Rattle.config.specs.Codes.{number_of, is_done}
@@ -14,8 +14,6 @@ use Rattle.wire.specs.Numbers.{part}
 use Rattle.quorum.specs.Counts.{reached}
 use Rattle.quorum.specs.First.{among, all_set, OneOf}
 use Rattle.quorum.specs.Sort.{Perm}
-use Rattle.price.specs.Due.{should_report}
-use Rattle.price.specs.Median.{median_of}
 use Rattle.frame.specs.Message.{Observation, Signed, Attested, Message, new_epoch, observe_req, observe, report_req, report, final, final_echo, kind_of}
 use Rattle.frame.specs.Decode.{attested_in, kind_in, message_in}
 use Rattle.frame.specs.Check.{frame_answer}
@@ -23,7 +21,7 @@ use Rattle.frame.specs.Claims.{Each, ReadAs}
 use Rattle.outbox.specs.Written.{own_frame, own_signature}
 use Rattle.report.specs.declared.Fault.TheVariants as fault
 use Rattle.report.specs.Newer.{newer}
-use Rattle.report.specs.Stands.{values_of, list_fault, attested_fault}
+use Rattle.report.specs.Stands.{attested_fault}
 use Rattle.pacemaker.specs.State.{is_started}
 use Rattle.pacemaker.specs.Rules.{heard_by}
 use Rattle.follower.specs.State.{is_set}
@@ -31,9 +29,8 @@ use Rattle.follower.specs.Claims.{Carries}
 use Rattle.node.specs.declared.Fired.{Fired}
 use Rattle.node.specs.declared.Fired.TheVariants as fired
 use Rattle.node.specs.declared.Made.{Made}
-use Rattle.node.specs.declared.Node.{Node}
 use Rattle.node.specs.declared.Outcome.{Outcome}
-use Rattle.node.specs.State.{restored_node, epoch_of, leader_now, good_state}
+use Rattle.node.specs.State.{restored_node, epoch_of, good_state}
 use Rattle.node.specs.Event.{Whole, whole, Delivery, Event, starts, delivers, fires, Effect, refused, done}
 use Rattle.node.specs.Answers.{firing}
 use Rattle.node.specs.Calls.{restore_answer, restore_of, fresh_of, step, Out, out, frames_of, no_timers, refusing, settled, in_room, called, unarmed_of}
@@ -155,48 +152,28 @@ FewSent (m ∷ k ∷ l ∷ rest) = ⊥
 abbrev pub NewEpochGoesFirst : Type 0
 NewEpochGoesFirst = (w : Whole) (e : Event) (f : Effect) → step w e ≡ done f → FewSent f.sent
 
--- What a node signs, n being the node before the event and v after it. An OBSERVE that is sent answers an OBSERVE-REQ in a frame that passed, from the leader, of the node's own epoch and
--- of a later round than its own, at most r_max, while its instance runs; it carries the host's observation; and the node is then in that round.
-pub record AnswersRequest (n v : Node) (d : Delivery) (epoch round : ℕ) (value : ℤ) (g : List ℕ) : Type 0 where
-  pub request : ReadAs d.frame n.config.n n.config.number d.link (observe_req epoch round)
-  pub from_leader : d.link ≡ leader_now n
-  pub live : is_set n.follower.live ≡ true
-  pub current : epoch ≡ epoch_of n
-  pub later : n.follower.round < round
-  pub in_tenure : round ≤ n.config.r_max
-  pub observed : value ≡ d.observation
+-- What a node signs. An OBSERVE that is sent answers the request of that epoch and round, and carries the host's observation.
+pub record AnswersRequest (d : Delivery) (epoch round : ℕ) (v : ℤ) (g : List ℕ) : Type 0 where
+  pub request : message_in d.frame ≡ observe_req epoch round
+  pub value : v ≡ d.observation
   pub signature : g ≡ own_signature
-  pub same_epoch : epoch_of v ≡ epoch_of n
-  pub in_round_lem : v.follower.round ≡ round
 
--- A REPORT that is sent answers a REPORT-REQ in a frame that passed, from the leader, of the node's own epoch and round, of which it had signed none and which it had not completed, while
--- its instance runs; it carries the request's list, which stands, with every bit set, and whose median should be reported; and the node has then signed one.
-pub record AnswersList (n v : Node) (d : Delivery) (epoch round : ℕ) (xs : List Observation) (g : List ℕ) : Type 0 where
+-- A REPORT that is sent answers a REPORT-REQ of that epoch, round and list with every bit set.
+pub record AnswersList (d : Delivery) (epoch round : ℕ) (xs : List Observation) (g : List ℕ) : Type 0 where
   pub list : List Signed
-  pub request : ReadAs d.frame n.config.n n.config.number d.link (report_req epoch round list)
-  pub from_leader : d.link ≡ leader_now n
-  pub live : is_set n.follower.live ≡ true
-  pub current : epoch ≡ epoch_of n
-  pub own_round : round ≡ n.follower.round
-  pub unsigned : is_set n.follower.signed ≡ false
-  pub still_open : is_set n.follower.completed ≡ false
+  pub request : message_in d.frame ≡ report_req epoch round list
   pub same : xs ≡ map (λ (x : Signed). x.said) list
-  pub stands : list_fault n.config.f xs ≡ fault.Nothing
   pub bits : all_set d.bits (length list) ≡ true
-  pub due : should_report n.config d.time d.commit (median_of (values_of xs)) ≡ true
   pub signature : g ≡ own_signature
-  pub same_epoch : epoch_of v ≡ epoch_of n
-  pub in_round_lem : v.follower.round ≡ round
-  pub signed : is_set v.follower.signed ≡ true
 
-abbrev pub SignedFor : Node → Node → Delivery → Message → Type 0
-SignedFor n v d (observe e r value g) = AnswersRequest n v d e r value g
-SignedFor n v d (report e r xs g) = AnswersList n v d e r xs g
-SignedFor n v d (new_epoch e) = Unit {0}
-SignedFor n v d (observe_req e r) = Unit {0}
-SignedFor n v d (report_req e r xs) = Unit {0}
-SignedFor n v d (final a) = Unit {0}
-SignedFor n v d (final_echo a) = Unit {0}
+abbrev pub SignedFor : Delivery → Message → Type 0
+SignedFor d (observe e r v g) = AnswersRequest d e r v g
+SignedFor d (report e r xs g) = AnswersList d e r xs g
+SignedFor d (new_epoch e) = Unit {0}
+SignedFor d (observe_req e r) = Unit {0}
+SignedFor d (report_req e r xs) = Unit {0}
+SignedFor d (final a) = Unit {0}
+SignedFor d (final_echo a) = Unit {0}
 
 -- Start and timers send nothing that is for the node's own signature.
 abbrev pub Unsigned : Message → Type 0
@@ -208,14 +185,13 @@ Unsigned (report_req e r xs) = Unit {0}
 Unsigned (final a) = Unit {0}
 Unsigned (final_echo a) = Unit {0}
 
-abbrev pub Signs : Node → Node → Event → Message → Type 0
-Signs n v (starts time) m = Unsigned m
-Signs n v (delivers d) m = SignedFor n v d m
-Signs n v (fires t time) m = Unsigned m
+abbrev pub Signs : Event → Message → Type 0
+Signs (starts time) m = Unsigned m
+Signs (delivers d) m = SignedFor d m
+Signs (fires t time) m = Unsigned m
 
 abbrev pub SignsOnlyWhatItAnswers : Type 0
-SignsOnlyWhatItAnswers =
-    (w : Whole) (e : Event) (f : Effect) → step w e ≡ done f → Each (Signs w.node f.whole_after.node e) f.sent
+SignsOnlyWhatItAnswers = (w : Whole) (e : Event) (f : Effect) → step w e ≡ done f → Each (Signs e) f.sent
 
 -- A call whose buffers have their sizes is the step: refused with its code, or done with its effect and the frames sent over the outbox. In other buffers it is refused.
 pub record IsTheStep (w : Whole) (e : Event) (outbox : List ℕ) (at : ℕ) : Type 0 where

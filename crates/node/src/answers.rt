@@ -14,6 +14,7 @@ use config::{Answer, Commit, Config, Saved};
 use follower::Follower;
 
 // 12, then 2.
+#[tactic(auto, unfolding(crate::specs::Calls::restore_answer))]
 pub(crate) fn restore_answer(config: Config, saved: Saved) -> Answer
     ensures { result ≡ restore_answer config saved }
 {
@@ -27,6 +28,7 @@ pub(crate) fn restore_answer(config: Config, saved: Saved) -> Answer
 }
 
 // A timer that is none of the four: 9, 1.
+#[tactic(auto, unfolding(crate::specs::Answers::unarmed_answer))]
 pub(crate) fn unarmed_answer(time: u64) -> Answer
     ensures { result ≡ unarmed_answer time }
 {
@@ -37,6 +39,7 @@ pub(crate) fn unarmed_answer(time: u64) -> Answer
 }
 
 // Whether the lent buffers have their sizes, the outbox from the position on.
+#[tactic(auto, unfolding(crate::specs::State::roomy))]
 pub(crate) fn roomy(outbox: usize, at: usize, kept: usize, signatures: usize) -> bool
     ensures { result ≡ roomy outbox at kept signatures }
 {
@@ -48,6 +51,7 @@ pub(crate) fn roomy(outbox: usize, at: usize, kept: usize, signatures: usize) ->
 
 impl Node {
     // Whether every field is in its range, and so is the body that is kept in a buffer of full size.
+    #[tactic(auto, unfolding(crate::specs::State::good_state, crate::specs::State::good_kept))]
     fn good(self, kept: &[u8]) -> bool
         ensures { result ≡ good_state self kept.now }
     {
@@ -63,6 +67,7 @@ impl Node {
     }
 
     // Whether every field is in its range.
+    #[tactic(auto, unfolding(crate::specs::State::good_node))]
     fn good_fields(self) -> bool
         ensures { result ≡ good_node self }
     {
@@ -74,6 +79,7 @@ impl Node {
     }
 
     // 2, 3, then the answer of the event.
+    #[tactic(auto, unfolding(crate::specs::Answers::after_state))]
     pub(crate) fn after_state(self, room: bool, kept: &[u8], answer: Answer) -> Answer
         ensures { result ≡ after_state room self kept.now answer }
     {
@@ -87,6 +93,7 @@ impl Node {
     }
 
     // Start: 9, 1.
+    #[tactic(auto, unfolding(crate::specs::Answers::start_answer))]
     pub(crate) fn start_answer(self, time: u64) -> Answer
         ensures { result ≡ start_answer self time }
     {
@@ -101,6 +108,7 @@ impl Node {
     }
 
     // A timer: 2, 3, then 9, 1, 11.
+    #[tactic(auto, using(crate::proofs::Checks::state_then, crate::proofs::Checks::state_config))]
     pub(crate) fn timer_answer(self, fired: Fired, time: u64, room: bool, kept: &[u8]) -> Answer
         ensures { result ≡ after_state room self kept.now (timer_answer self fired time) }
     {
@@ -112,6 +120,7 @@ impl Node {
     }
 
     // A timer: 9, 1, 11.
+    #[tactic(auto, unfolding(crate::specs::Answers::timer_answer))]
     fn fired_answer(self, fired: Fired, time: u64) -> Answer
         requires { good_config self.config ≡ true }
         ensures { result ≡ timer_answer self fired time }
@@ -129,6 +138,7 @@ impl Node {
     }
 
     // Whether the conditions of a timer's rule hold.
+    #[tactic(auto, using(crate::proofs::Ready::members_some, crate::proofs::Ready::members_most), unfolding(crate::specs::Answers::firing))]
     fn firing(self, fired: Fired) -> bool
         requires { good_config self.config ≡ true }
         ensures { result ≡ firing self fired }
@@ -145,6 +155,7 @@ impl Node {
     }
 
     // Whether a timer's rule would lead past the last epoch or round.
+    #[tactic(auto, unfolding(crate::specs::Answers::ending))]
     fn ending(self, fired: Fired) -> bool
         ensures { result ≡ ending self fired }
     {
@@ -159,6 +170,7 @@ impl Node {
     }
 
     // A delivery: 2, 3, 4 to 9 of the frame, then what comes after those.
+    #[tactic(auto, using(config::proofs::Facts::done_only, crate::proofs::Checks::state_then, crate::proofs::Checks::state_config), unfolding(crate::specs::Answers::delivery_answer))]
     pub(crate) fn delivery_answer(
         self,
         link: u8,
@@ -184,6 +196,7 @@ impl Node {
     }
 
     // 9 of the time and the commit, then 1, 10 and 11 of the message.
+    #[tactic(auto, using(frame::proofs::Framed::checked_frame, crate::proofs::Ready::sound_frame), unfolding(crate::specs::Answers::delivery_answer, config::specs::Codes::number_of))]
     fn after_frame(self, link: u8, time: u64, commit: Commit, bits: u64, frame: &[u8]) -> Answer
         requires { (good_config self.config ≡ true) × (frame_answer frame.now self.config.n self.config.number link ≡ Done) }
         ensures { result ≡ delivery_answer self link time commit bits frame.now }
@@ -196,6 +209,7 @@ impl Node {
     }
 
     // 1 before Start, then 1 and 10 of the rule, then 11.
+    #[tactic(auto, unfolding(crate::specs::Answers::message_answer))]
     fn message_answer(self, j: u8, bits: u64, kind: u8, body: &[u8]) -> Answer
         requires { Sound self.config j kind body.now }
         ensures { result ≡ message_answer self j bits (message_of kind body.now) }
@@ -216,6 +230,7 @@ impl Node {
     }
 
     // 1 and 10, by the message's kind.
+    #[tactic(auto, unfolding(frame::specs::Decode::message_of))]
     fn rule_answer(self, j: u8, bits: u64, kind: u8, body: &[u8]) -> Answer
         requires { Sound self.config j kind body.now }
         ensures { result ≡ rule_answer self j bits (message_of kind body.now) }
@@ -228,6 +243,7 @@ impl Node {
         }
     }
 
+    #[tactic(auto, using(crate::proofs::Ready::members_most), unfolding(crate::specs::Answers::follower_answer))]
     fn follower_answer(self, j: u8, bits: u64, kind: u8, body: &[u8]) -> Answer
         requires { Sound self.config j kind body.now }
         ensures { result ≡ follower_answer self j bits (message_of kind body.now) }
@@ -240,6 +256,7 @@ impl Node {
         finding.answer()
     }
 
+    #[tactic(auto, using(crate::proofs::Ready::members_most), unfolding(crate::specs::Answers::leader_answer))]
     fn leader_answer(self, j: u8, bits: u64, kind: u8, body: &[u8]) -> Answer
         requires { Sound self.config j kind body.now }
         ensures { result ≡ leader_answer self j bits (message_of kind body.now) }

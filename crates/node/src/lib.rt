@@ -1,4 +1,6 @@
 // The node: the calls that a host makes of it. Each call checks, then runs its rule; the rules are the pacemaker's, the follower's and the leader's, and here they are put together.
+#![tactic(auto)]
+
 mod answers;
 mod rules;
 mod writing;
@@ -14,7 +16,7 @@ use leader::Leader;
 use pacemaker::Pace;
 
 #[repr(C)]
-#[derive(Drop)]
+#[derive(Clone, Copy)]
 pub struct Node {
     // what the members have agreed on; no call changes it
     pub config: Config,
@@ -27,7 +29,7 @@ pub struct Node {
 }
 
 // Which timer has fired.
-#[derive(Drop)]
+#[derive(Clone, Copy)]
 pub enum Fired {
     Resend,
     Progress,
@@ -36,7 +38,7 @@ pub enum Fired {
 }
 
 // What becomes of each timer.
-#[derive(Drop)]
+#[derive(Clone, Copy)]
 pub struct Timers {
     pub resend: Timer,
     pub progress: Timer,
@@ -45,14 +47,14 @@ pub struct Timers {
 }
 
 // What making a node came to. Where the answer is not DONE the node is of no use: each call of it answers STATE.
-#[derive(Drop)]
+#[derive(Clone, Copy)]
 pub struct Made {
     pub answer: Answer,
     pub node: Node,
 }
 
 // What a call came to.
-#[derive(Drop)]
+#[derive(Clone, Copy)]
 pub struct Outcome {
     pub answer: Answer,
     pub node: Node,
@@ -65,6 +67,7 @@ pub struct Outcome {
 
 impl Node {
     // A node that has heard and sent nothing.
+    #[tactic(auto, unfolding(crate::specs::Calls::fresh_of))]
     pub fn fresh(config: Config) -> Made
         ensures { result ≡ fresh_of config }
     {
@@ -78,6 +81,7 @@ impl Node {
     }
 
     // A node as it was saved; it joins no report instance before it moves to a higher epoch.
+    #[tactic(auto, unfolding(crate::specs::Calls::restore_of))]
     pub fn restore(config: Config, saved: Saved) -> Made
         ensures { result ≡ restore_of config saved }
     {
@@ -94,6 +98,7 @@ impl Node {
     }
 
     // The host starts the node.
+    #[tactic(auto, using(crate::proofs::Ready::with_room), unfolding(frame::specs::Table::body_length, crate::specs::Calls::called))]
     pub fn start(
         self,
         time: u64,
@@ -114,6 +119,7 @@ impl Node {
     }
 
     // A frame has come over the link of a member, at a time, with the host's observation, the contract's last commit and verdict bits.
+    #[tactic(auto, using(crate::proofs::Ready::ready_delivery), unfolding(crate::specs::Calls::called))]
     pub fn deliver(
         self,
         link: u8,
@@ -148,6 +154,7 @@ impl Node {
     }
 
     // A timer has fired.
+    #[tactic(auto, using(crate::proofs::Ready::ready_timer), unfolding(crate::specs::Calls::called))]
     pub fn timer(
         self,
         fired: Fired,

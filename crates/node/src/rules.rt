@@ -19,6 +19,7 @@ use pacemaker::{Pace, Paced};
 
 impl Node {
     // By the message's kind: the pacemaker's, the leader's or the follower's.
+    #[tactic(auto, using(frame::proofs::Framed::checked_frame, frame::proofs::Checked::checked_newepoch, crate::proofs::Ready::sound_frame), unfolding(frame::specs::Decode::message_of))]
     pub(crate) fn delivering(
         self,
         link: u8,
@@ -45,6 +46,7 @@ impl Node {
     }
 
     // NEWEPOCH x from member j.
+    #[tactic(auto, using(crate::proofs::Ready::members_most), unfolding(frame::specs::Table::body_length, crate::specs::Effects::hearing, crate::specs::Effects::moving, crate::specs::Effects::pacing))]
     fn hearing(
         self,
         j: u8,
@@ -79,6 +81,7 @@ impl Node {
     }
 
     // The node moves to a new epoch: a fresh report instance begins, and its leader's first round.
+    #[tactic(auto, using(crate::proofs::Ready::members_some, crate::proofs::Ready::members_most, crate::proofs::Frames::announced_long, crate::proofs::Frames::asking_fits, crate::proofs::Frames::begun_long), unfolding(frame::specs::Table::body_length))]
     fn moving(
         self,
         paced: Paced,
@@ -121,6 +124,7 @@ impl Node {
     }
 
     // A message of the follower's, with what it raises.
+    #[tactic(auto, using(frame::proofs::Framed::checked_frame, crate::proofs::Ready::members_most, crate::proofs::Ready::sound_frame, crate::proofs::Frames::announced_long, crate::proofs::Followed::leader_changes), unfolding(frame::specs::Table::body_length))]
     fn following(
         self,
         link: u8,
@@ -167,6 +171,7 @@ impl Node {
     }
 
     // A message of the leader's.
+    #[tactic(auto, using(crate::proofs::Ready::members_most))]
     fn led_by(
         self,
         j: u8,
@@ -185,6 +190,7 @@ impl Node {
     }
 
     // What the leader's rule came to, and the frame that it sends.
+    #[tactic(auto, using(crate::proofs::Ready::members_most, crate::proofs::Frames::asking_fits))]
     fn leading(self, led: Led, outbox: &mut [u8], at: usize, signatures: &[u8]) -> Outcome
         requires { (good_config self.config ≡ true) × (at + outbox_size ≤ length outbox.old) × (signatures_size ≤ length signatures.now) }
         ensures { (kept before : List ℕ) → out result outbox.new kept signatures.now ≡ settled (leading (whole self kept before) led signatures.now) outbox.old at }
@@ -206,6 +212,7 @@ impl Node {
     }
 
     // A timer's rule.
+    #[tactic(auto, unfolding(frame::specs::Table::body_length, crate::specs::Answers::ending))]
     pub(crate) fn timing(
         self,
         fired: Fired,
@@ -243,6 +250,7 @@ fn raising(raised: Raised, pace: Pace) -> Paced
 }
 
 // What a fresh instance of an epoch has of its leader: round 1, where this node is that.
+#[tactic(auto, unfolding(crate::specs::Effects::begun))]
 fn begun(config: Config, epoch: u32, signatures: &mut [u8]) -> Led
     requires { (0 < config.n) × (signatures_size ≤ length signatures.old) }
     ensures { (result ≡ begun config epoch) × (signatures.new ≡ no_signatures signatures.old) }

@@ -48,6 +48,7 @@ pub(crate) fn write_asking(
 }
 
 // Writes the follower's reply to a body, if it has one.
+#[tactic(auto, using(frame::proofs::Checked::checked_length, frame::proofs::Checked::checked_head, follower::proofs::Bodies::checked_attested), unfolding(frame::specs::Table::body_length))]
 pub(crate) fn write_reply(
     config: Config,
     reply: Reply,

@@ -1,4 +1,6 @@
 // Writing frames: each writer lays the frame of its message over the outbox from a position on, and nothing else.
+#![tactic(auto, unfolding(frame::specs::Table::body_length, frame::specs::Table::shape_of, frame::specs::Table::table))]
+
 ghost use Rattle.std.specs.Prelude.{◌≡◌, ◌+◌, ◌*◌, ◌^◌, ◌≤◌, ◌<◌, length};
 ghost use Rattle.config.specs.Limits.{signature_size};
 ghost use Rattle.wire.specs.Overlay.{over};
@@ -122,6 +124,7 @@ pub fn write_final_echo(outbox: &mut [u8], at: usize, config: Config, body: &[u8
 
 // ---- bodies, from the start of a slice on; each answers the body's length
 
+#[tactic(auto, unfolding(frame::specs::Table::body_length, frame::specs::Table::shape_of, frame::specs::Table::table, frame::specs::Encode::body_bytes))]
 fn put_newepoch(out: &mut [u8], epoch: u32) -> usize
     requires { body_length 1 0 0 ≤ length out.old }
     ensures { (out.new ≡ over out.old 0 (body_bytes (new_epoch epoch))) × (result ≡ body_length 1 0 0) }
@@ -207,6 +210,7 @@ fn put_copy(out: &mut [u8], body: &[u8]) -> usize
 
 // ---- lists, from a place of a slice on; each answers the place behind the list
 
+#[tactic(auto, using(crate::proofs::Runs::member_at, crate::proofs::Runs::run_end), unfolding(frame::specs::Table::shape_of, frame::specs::Table::table))]
 fn put_observations(out: &mut [u8], at: usize, n: u8, order: &[u8], values: &[i64]) -> usize
     requires { (at + length order.now * (shape_of 6).entry ≤ length out.old) × Members n order.now × HasValues n values.now }
     ensures { (out.new ≡ over out.old at (flat observation_bytes (observations order.now values.now))) × (result ≡ at + length order.now * (shape_of 6).entry) }
@@ -223,6 +227,7 @@ fn put_observations(out: &mut [u8], at: usize, n: u8, order: &[u8], values: &[i6
     p
 }
 
+#[tactic(auto, using(crate::proofs::Runs::member_at, crate::proofs::Runs::run_end), unfolding(frame::specs::Table::shape_of, frame::specs::Table::table))]
 fn put_signed(
     out: &mut [u8],
     at: usize,
@@ -247,6 +252,7 @@ fn put_signed(
     p
 }
 
+#[tactic(auto, using(crate::proofs::Runs::run_end), unfolding(frame::specs::Table::shape_of, frame::specs::Table::table))]
 fn put_signers(out: &mut [u8], at: usize, n: u8, signers: &[u8], signatures: &[u8]) -> usize
     requires { (at + length signers.now * (shape_of 6).signer ≤ length out.old) × Members n signers.now × HasSignatures n signatures.now }
     ensures { (out.new ≡ over out.old at (flat signer_bytes (signers_of signers.now signatures.now))) × (result ≡ at + length signers.now * (shape_of 6).signer) }
@@ -265,6 +271,7 @@ fn put_signers(out: &mut [u8], at: usize, n: u8, signers: &[u8], signatures: &[u
 }
 
 // The observations of a REPORT-REQ's body, each without its signature, where a REPORT has them.
+#[tactic(auto, using(crate::proofs::Runs::run_end), unfolding(frame::specs::Table::body_length, frame::specs::Table::shape_of, frame::specs::Table::table))]
 fn put_said(out: &mut [u8], body: &[u8]) -> usize
     requires { (list_place + count_in body.now * (shape_of 5).entry ≤ length out.old) × (length body.now ≡ body_length 4 (count_in body.now) 0) }
     ensures { (out.new ≡ over out.old list_place (flat observation_bytes (observations_in (shape_of 4).entry body.now))) × (result ≡ list_place + count_in body.now * (shape_of 5).entry) }
@@ -282,6 +289,7 @@ fn put_said(out: &mut [u8], body: &[u8]) -> usize
 }
 
 // Member j's number and value.
+#[tactic(auto, using(crate::proofs::Runs::laid_behind), unfolding(frame::specs::Table::shape_of, frame::specs::Table::table, frame::specs::Encode::observation_bytes))]
 fn put_observation(out: &mut [u8], at: usize, j: u8, values: &[i64])
     requires { (at + (shape_of 6).entry ≤ length out.old) × (1 ≤ j) × (j ≤ length values.now) }
     ensures { out.new ≡ over out.old at (observation_bytes (observed values.now j)) }

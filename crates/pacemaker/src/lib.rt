@@ -1,5 +1,7 @@
 // The pacemaker: which epoch a node works in, and the NEWEPOCH messages by which the members agree on it.
 // It writes no byte: a rule answers what is sent, and whoever called it writes the frame.
+#![tactic(auto)]
+
 ghost use Rattle.std.specs.Prelude.{◌≡◌, ◌≤◌, ◌<◌, max, take};
 ghost use Rattle.config.specs.Limits.{members, last_epoch};
 ghost use Rattle.quorum.specs.Counts.{count_above, reached};
@@ -10,7 +12,7 @@ use config::{Config, Saved, Timer};
 
 // What a node knows of epochs.
 #[repr(C)]
-#[derive(Drop)]
+#[derive(Clone, Copy)]
 pub struct Pace {
     // the epoch this node works in; 0 before its first move
     pub epoch: u32,
@@ -27,14 +29,14 @@ pub struct Pace {
 }
 
 // What a rule has the node send.
-#[derive(Drop)]
+#[derive(Clone, Copy)]
 pub enum Sent {
     Nothing,
     NewEpoch(u32),
 }
 
 // What a rule did.
-#[derive(Drop)]
+#[derive(Clone, Copy)]
 pub struct Paced {
     pub pace: Pace,
     pub sent: Sent,
@@ -60,6 +62,7 @@ impl Pace {
     }
 
     // Whether every field is in its range.
+    #[tactic(auto, unfolding(crate::specs::State::good_pace))]
     pub fn good(self) -> bool
         ensures { result ≡ good_pace self }
     {
@@ -98,6 +101,7 @@ impl Pace {
     }
 
     // The host starts the node.
+    #[tactic(auto, unfolding(crate::specs::Rules::start_of))]
     pub fn start(self) -> Paced
         ensures { result ≡ start_of self }
     {
@@ -113,6 +117,7 @@ impl Pace {
     }
 
     // T_resend fires.
+    #[tactic(auto, unfolding(crate::specs::Rules::resend_of))]
     pub fn send_again(self) -> Paced
         ensures { result ≡ resend_of self }
     {
@@ -120,6 +125,7 @@ impl Pace {
     }
 
     // T_progress fires, or a round asks for another leader.
+    #[tactic(auto, unfolding(crate::specs::Rules::change_leader_of))]
     pub fn change_leader(self) -> Paced
         requires { self.epoch < last_epoch }
         ensures { result ≡ change_leader_of self }
@@ -133,6 +139,7 @@ impl Pace {
     }
 
     // A round has made progress.
+    #[tactic(auto, unfolding(crate::specs::Rules::progress_of))]
     pub fn made_progress(self) -> Paced
         ensures { result ≡ progress_of self }
     {
@@ -145,6 +152,7 @@ impl Pace {
     }
 
     // NEWEPOCH x has come from member j.
+    #[tactic(auto, unfolding(crate::specs::Rules::new_epoch_of))]
     pub fn new_epoch(self, n: u8, f: u8, j: u8, x: u32) -> Paced
         requires { (1 ≤ j) × (j ≤ n) × (n ≤ members) }
         ensures { result ≡ new_epoch_of n f self j x }
@@ -158,6 +166,7 @@ impl Pace {
     }
 
     // Member j has sent x.
+    #[tactic(auto, unfolding(crate::specs::Rules::hearing))]
     pub fn hear(self, j: u8, x: u32) -> Pace
         requires { (1 ≤ j) × (j ≤ members) }
         ensures { result ≡ hearing self j x }
@@ -170,6 +179,7 @@ impl Pace {
     }
 
     // Sends what more than f members have reached, where more than f are ahead of what this node has sent.
+    #[tactic(auto, unfolding(crate::specs::Rules::amplifying))]
     pub fn amplify(self, n: u8, f: u8) -> Paced
         requires { n ≤ members }
         ensures { result ≡ amplifying n f self }
@@ -183,6 +193,7 @@ impl Pace {
     }
 
     // Moves to what more than 2f members have reached, where more than 2f are ahead of this node's epoch.
+    #[tactic(auto, unfolding(crate::specs::Rules::moving))]
     pub fn move_on(self, n: u8, f: u8) -> Paced
         requires { n ≤ members }
         ensures { result ≡ moving n f self }

@@ -1,4 +1,6 @@
 // Prices: how far one lies from another, whether that is a deviation, whether a report is due, and where the median stands.
+#![tactic(auto)]
+
 ghost use Rattle.std.specs.Prelude.{◌≡◌, not, ◌+◌, ◌-◌, ◌*◌, ◌<◌, ◌^◌, ltb, nat_abs};
 ghost use Rattle.std.specs.Int.Signed.{non_neg};
 ghost use Rattle.price.specs.Deviation.{distance_of, deviates};
@@ -12,6 +14,7 @@ use config::{Commit, Config};
 const BILLION: u32 = 1000000000;
 
 // Whether a median is due for a report: at the first one, on a deviation, or when more than Delta_C has passed since the commit.
+#[tactic(auto, unfolding(crate::specs::Due::should_report))]
 pub fn should_report(config: Config, time: u64, commit: Commit, median: i64) -> bool
     ensures { result ≡ should_report config time commit median }
 {
@@ -25,6 +28,7 @@ pub fn should_report(config: Config, time: u64, commit: Commit, median: i64) -> 
 }
 
 // Whether `new` deviates from `old` by more than alpha, exactly: magnitudes are u64, products have two parts.
+#[tactic(auto, unfolding(crate::specs::Deviation::deviates))]
 pub fn deviates(config: Config, old: i64, new: i64) -> bool
     ensures { result ≡ deviates config old new }
 {
@@ -67,13 +71,14 @@ fn gap(a: u64, b: u64) -> u64
 }
 
 // A number of up to 96 bits: high * 2^32 + low, with low below 2^32.
-#[derive(Drop)]
+#[derive(Clone, Copy)]
 struct Wide {
     high: u64,
     low: u64,
 }
 
 // The whole product of a and k.
+#[tactic(auto, using(crate::proofs::Limbs::split_32))]
 fn product(a: u64, k: u32) -> Wide
     ensures { Limbs result.high result.low (a * k) }
 {

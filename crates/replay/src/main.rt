@@ -1,5 +1,7 @@
 // Reads a script of calls from standard input, makes them on one node, one sender and one contract, and prints a line for each;
 // docs/REPLAY.md describes records and lines.
+#![tactic(auto)]
+
 mod changes;
 mod contract_calls;
 mod lines;
@@ -16,7 +18,7 @@ use image::memory::Lengths;
 use libc::STDIN_FILENO;
 
 // What a record came to: whether the run goes on, and how long the buffers are.
-#[derive(Drop)]
+#[derive(Clone, Copy)]
 struct Turn {
     more: bool,
     lengths: Lengths,

@@ -22,7 +22,7 @@ const TIMER: usize = 17;
 const GRACE: u8 = 3;
 
 // What a record of a delivery says before its frame.
-#[derive(Drop)]
+#[derive(Clone, Copy)]
 struct Arrival {
     link: u8,
     time: u64,

@@ -1,4 +1,6 @@
 // What an attested report says, whether it stands, and how it is kept: one account for follower, sender and contract.
+#![tactic(auto)]
+
 ghost use Rattle.std.specs.Prelude.{◌≡◌, ◌≤◌, ◌<◌, length};
 ghost use Rattle.std.specs.Int.Signed.{lt_z};
 ghost use Rattle.config.specs.Limits.{members, kept_size};
@@ -14,7 +16,7 @@ ghost use Rattle.report.specs.Whole.{WholeList, WholeReport, part_of};
 use config::{Answer, Config};
 
 // What is wrong with a report.
-#[derive(Drop)]
+#[derive(Clone, Copy)]
 pub enum Fault {
     Nothing,
     // at most 2f observations
@@ -64,6 +66,7 @@ impl Fault {
 }
 
 // Checks 14 to 17 of the report in a body.
+#[tactic(auto, using(crate::proofs::Whole::report_list), unfolding(crate::specs::Stands::attested_fault))]
 pub fn attested_fault(body: &[u8], f: u8, bits: u64) -> Fault
     requires { WholeReport body.now }
     ensures { result ≡ attested_fault f bits (attested_in body.now) }
@@ -72,6 +75,7 @@ pub fn attested_fault(body: &[u8], f: u8, bits: u64) -> Fault
 }
 
 // Checks 14 to 16 of a list of observations, whatever stride its entries have.
+#[tactic(auto, using(frame::proofs::Entries::length_entries, crate::proofs::Whole::list_stride, crate::proofs::Whole::distinct_members), unfolding(crate::specs::Stands::list_fault))]
 pub fn list_fault(body: &[u8], stride: usize, f: u8) -> Fault
     requires { WholeList stride body.now }
     ensures { result ≡ list_fault f (observations_in stride body.now) }
@@ -90,6 +94,7 @@ pub fn list_fault(body: &[u8], stride: usize, f: u8) -> Fault
 }
 
 // Whether no value is below the one before it.
+#[tactic(auto, using(frame::proofs::Entries::length_entries, crate::proofs::Whole::length_each, crate::proofs::Values::falling_next, crate::proofs::Values::falling_end))]
 fn not_falling(body: &[u8], stride: usize) -> bool
     requires { WholeList stride body.now }
     ensures { result ≡ not_falling (values_of (observations_in stride body.now)) }
@@ -115,6 +120,7 @@ pub fn below(v: i64, w: i64) -> bool
 }
 
 // Check 17 of the report in a body.
+#[tactic(auto, using(frame::proofs::Entries::length_entries, crate::proofs::Whole::report_head, crate::proofs::Whole::report_list_end), unfolding(crate::specs::Stands::signers_fault))]
 fn signers_fault(body: &[u8], f: u8, bits: u64) -> Fault
     requires { WholeReport body.now }
     ensures { result ≡ signers_fault f bits (signers_in body.now) }
@@ -127,6 +133,7 @@ fn signers_fault(body: &[u8], f: u8, bits: u64) -> Fault
 }
 
 // A signer that signed before.
+#[tactic(auto, using(crate::proofs::Whole::report_head, crate::proofs::Whole::report_list_end, crate::proofs::Whole::report_signers, crate::proofs::Whole::signer_stride, crate::proofs::Whole::length_each, crate::proofs::Whole::repeat_members, crate::proofs::Faults::fault_at, crate::proofs::Faults::fault_none), unfolding(crate::specs::Stands::repeat_fault))]
 fn repeat_fault(body: &[u8]) -> Fault
     requires { WholeReport body.now }
     ensures { result ≡ repeat_fault (signer_members (signers_in body.now)) }
@@ -140,6 +147,7 @@ fn repeat_fault(body: &[u8]) -> Fault
 }
 
 // A clear bit among the first `many`.
+#[tactic(auto, using(crate::proofs::Faults::fault_at, crate::proofs::Faults::fault_none), unfolding(crate::specs::Stands::bits_fault))]
 pub fn bits_fault(bits: u64, many: usize) -> Fault
     ensures { result ≡ bits_fault bits many }
 {
@@ -194,6 +202,7 @@ pub fn clear(buffer: &mut [u8])
 }
 
 // The `len` bytes from `start` on, where they lie within the slice; else none.
+#[tactic(auto, using(frame::proofs::Access::part_from))]
 pub fn part_of(s: &[u8], start: usize, len: usize) -> &[u8]
     ensures { result.now ≡ part_of s.now start len }
 {

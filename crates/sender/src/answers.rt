@@ -14,6 +14,7 @@ use config::{Answer, Commit, Config};
 
 impl Sender {
     // Whether every field is in its range, and so is every body that waits in slots of full size.
+    #[tactic(auto, unfolding(crate::specs::State::good_sender))]
     pub fn good(self, waiting: &[u8]) -> bool
         ensures { result ≡ good_sender self waiting.now }
     {
@@ -27,6 +28,7 @@ impl Sender {
     }
 
     // Whether every field is in its range.
+    #[tactic(auto, unfolding(crate::specs::State::good_fields))]
     fn good_fields(self) -> bool
         ensures { result ≡ good_fields self }
     {
@@ -41,6 +43,7 @@ impl Sender {
     }
 
     // Whether each slot is free or holds a body in range.
+    #[tactic(auto, unfolding(crate::specs::State::good_slots))]
     fn good_slots(self, waiting: &[u8]) -> bool
         requires { (self.config.n ≤ members) × (waiting_size ≤ length waiting.now) }
         ensures { result ≡ good_slots slots self waiting.now }
@@ -57,6 +60,7 @@ impl Sender {
     }
 
     // 2, 3, 8 and 9 of the body, then what comes after those.
+    #[tactic(auto, using(config::proofs::Facts::done_only, crate::proofs::Ready::sender_config), unfolding(crate::specs::Calls::transmit_answer))]
     pub(crate) fn transmit_answer(
         self,
         body: &[u8],
@@ -82,6 +86,7 @@ impl Sender {
     }
 
     // 9 of the time and the commit, 12, then what comes after those.
+    #[tactic(auto, using(crate::proofs::Ready::own_within), unfolding(crate::specs::Calls::after_body))]
     fn after_body(self, body: &[u8], time: u64, commit: Commit, permutation: &[u8]) -> Answer
         requires { (good_config self.config ≡ true) × (body_answer self.config.n 6 body.now ≡ Done) }
         ensures { result ≡ after_body self body.now time commit permutation.now }
@@ -97,6 +102,7 @@ impl Sender {
     }
 
     // 13, 19, then 20.
+    #[tactic(auto, unfolding(crate::specs::Calls::after_config))]
     fn after_config(self, body: &[u8], commit: Commit, place: u8) -> Answer
         requires { (good_config self.config ≡ true) × (body_answer self.config.n 6 body.now ≡ Done) }
         ensures { result ≡ after_config self commit (attested_in body.now) place }
@@ -133,6 +139,7 @@ impl Sender {
     }
 
     // 20, which cannot occur beyond the last stage.
+    #[tactic(auto, unfolding(crate::specs::Calls::after_similar))]
     fn after_similar(self, place: u8) -> Answer
         requires { good_config self.config ≡ true }
         ensures { result ≡ after_similar self place }
@@ -145,6 +152,7 @@ impl Sender {
     }
 
     // 2, 3, 9, 1.
+    #[tactic(auto, unfolding(crate::specs::Calls::timeout_answer))]
     pub(crate) fn timeout_answer(self, time: u64, commit: Commit, waiting: &[u8]) -> Answer
         ensures { result ≡ timeout_answer self time commit waiting.now }
     {
@@ -164,6 +172,7 @@ impl Sender {
     }
 
     // Whether nothing is due: no report waits, or the earliest one's time has not come.
+    #[tactic(auto, unfolding(crate::specs::Calls::early))]
     fn early(self, time: u64, waiting: &[u8]) -> bool
         requires { waiting_size ≤ length waiting.now }
         ensures { result ≡ early self time waiting.now }
@@ -177,6 +186,7 @@ impl Sender {
 }
 
 // Whether a slot is free, or its body is in range.
+#[tactic(auto, using(crate::proofs::Slots::length_slot))]
 fn good_slot(flag: u8, waiting: &[u8], slot: usize, n: u8) -> bool
     requires { (n ≤ members) × (waiting_size ≤ length waiting.now) × (slot < slots) }
     ensures { result ≡ not (eqb flag 1) || good_attested n (report_in waiting.now slot) }
@@ -188,6 +198,7 @@ fn good_slot(flag: u8, waiting: &[u8], slot: usize, n: u8) -> bool
 }
 
 // Whether every slot's time is in range.
+#[tactic(auto, unfolding(crate::specs::State::good_times))]
 fn good_times(times: [u64; Config::SLOTS]) -> bool
     ensures { result ≡ good_times times }
 {

@@ -1,4 +1,6 @@
 // The sender: which reports a node holds for transmission, how long each waits for its stage, and which one leaves when its time has come.
+#![tactic(auto)]
+
 mod answers;
 mod queueing;
 mod staging;
@@ -13,7 +15,7 @@ use config::{Answer, Commit, Config};
 
 // The report that a node accepted last; epoch and round are both 0 before the first one.
 #[repr(C)]
-#[derive(Drop)]
+#[derive(Clone, Copy)]
 pub struct Accepted {
     pub median: i64,
     pub epoch: u32,
@@ -22,7 +24,7 @@ pub struct Accepted {
 
 // What a sender holds. The bodies of the waiting reports lie in a buffer that the host lends, a slot after another.
 #[repr(C)]
-#[derive(Drop)]
+#[derive(Clone, Copy)]
 pub struct Sender {
     pub config: Config,
     pub accepted: Accepted,
@@ -33,14 +35,14 @@ pub struct Sender {
 }
 
 // What making a sender came to.
-#[derive(Drop)]
+#[derive(Clone, Copy)]
 pub struct Made {
     pub answer: Answer,
     pub sender: Sender,
 }
 
 // What becomes of T_transmit: left as it is, set to fire after so many milliseconds, or stopped.
-#[derive(Drop)]
+#[derive(Clone, Copy)]
 pub enum Transmit {
     Leave,
     Set(u64),
@@ -48,7 +50,7 @@ pub enum Transmit {
 }
 
 // What a transmission came to.
-#[derive(Drop)]
+#[derive(Clone, Copy)]
 pub struct Queued {
     pub answer: Answer,
     pub sender: Sender,
@@ -56,14 +58,14 @@ pub struct Queued {
 }
 
 // A part of the slots' bytes: `len` of them, from `start` on.
-#[derive(Drop)]
+#[derive(Clone, Copy)]
 pub struct Part {
     pub start: usize,
     pub len: usize,
 }
 
 // What a timeout came to, and where the report lies that is handed out; `len` is 0 where none is.
-#[derive(Drop)]
+#[derive(Clone, Copy)]
 pub struct Released {
     pub answer: Answer,
     pub sender: Sender,
@@ -73,6 +75,7 @@ pub struct Released {
 
 impl Sender {
     // A sender that has accepted nothing; CONFIG where the configuration is out of range.
+    #[tactic(auto, unfolding(crate::specs::Calls::made_of))]
     pub fn fresh(config: Config) -> Made
         ensures { result ≡ made_of config }
     {
@@ -93,6 +96,7 @@ impl Sender {
     }
 
     // A FINAL body is to be transmitted, as the host's permutation orders the members.
+    #[tactic(auto, using(crate::proofs::Ready::own_within, crate::proofs::Ready::transmit_passed), unfolding(crate::specs::Calls::transmit_of))]
     pub fn transmit(
         self,
         body: &[u8],
@@ -116,6 +120,7 @@ impl Sender {
     }
 
     // The report becomes the accepted one, and waits if a stage holds the place.
+    #[tactic(auto, unfolding(crate::specs::Calls::transmitted))]
     fn transmitted(self, body: &[u8], time: u64, place: u8, waiting: &mut [u8]) -> Queued
         requires { Passed self body.now time place waiting.old }
         ensures { sent result waiting.new ≡ transmitted self body.now time place waiting.old }
@@ -129,6 +134,7 @@ impl Sender {
     }
 
     // The sender after a report is accepted, and its slots.
+    #[tactic(auto, unfolding(crate::specs::Calls::accepting, crate::specs::Calls::accepting_bytes))]
     fn accepting(self, body: &[u8], time: u64, place: u8, waiting: &mut [u8]) -> Sender
         requires { Passed self body.now time place waiting.old }
         ensures { (result ≡ accepting self (attested_in body.now) time place) × (waiting.new ≡ accepting_bytes self body.now place waiting.old) }
@@ -155,6 +161,7 @@ impl Sender {
     }
 
     // T_transmit fires.
+    #[tactic(auto, using(crate::proofs::Ready::timeout_passed), unfolding(crate::specs::Calls::timeout_of))]
     pub fn timeout(self, time: u64, commit: Commit, waiting: &[u8]) -> Released
         ensures { result ≡ timeout_of self time commit waiting.now }
     {
@@ -171,6 +178,7 @@ impl Sender {
     }
 
     // The earliest report leaves.
+    #[tactic(auto, unfolding(crate::specs::Calls::released))]
     fn released(self, time: u64, commit: Commit, waiting: &[u8]) -> Released
         requires { Due self waiting.now }
         ensures { result ≡ released self time commit waiting.now }
@@ -187,6 +195,7 @@ impl Sender {
 }
 
 // Where the report of a slot lies, if it is newer than the commit; else no part.
+#[tactic(auto, using(crate::proofs::Slots::length_slot, crate::proofs::Slots::slot_at), unfolding(frame::specs::Table::shape_of, frame::specs::Table::table, crate::specs::Calls::releasing))]
 fn releasing(waiting: &[u8], commit: Commit, slot: usize) -> Part
     requires { (waiting_size ≤ length waiting.now) × (slot < slots) }
     ensures { result ≡ releasing waiting.now commit slot }

@@ -26,6 +26,7 @@ impl Sender {
     }
 
     // When T_transmit is to fire.
+    #[tactic(auto, unfolding(crate::specs::Waiting::transmit_at))]
     pub(crate) fn transmit_at(self, waiting: &[u8], time: u64) -> Transmit
         requires { waiting_size ≤ length waiting.now }
         ensures { result ≡ transmit_at self waiting.now time }
@@ -38,6 +39,7 @@ impl Sender {
     }
 
     // The slot of the earliest report; the number of slots where none waits.
+    #[tactic(auto, using(crate::proofs::Slots::earliest_most), unfolding(crate::specs::Waiting::earliest_below))]
     pub(crate) fn earliest(self, waiting: &[u8]) -> usize
         requires { waiting_size ≤ length waiting.now }
         ensures { (result ≡ earliest self waiting.now) × (result ≤ slots) }
@@ -70,6 +72,7 @@ impl Sender {
     }
 
     // Whether the report in slot a is due before the one in slot b: by time, then epoch, then round.
+    #[tactic(auto, using(crate::proofs::Slots::length_slot))]
     fn sooner(self, waiting: &[u8], a: usize, b: usize) -> bool
         requires { (waiting_size ≤ length waiting.now) × (a < slots) × (b < slots) }
         ensures { result ≡ sooner self waiting.now a b }
@@ -90,6 +93,7 @@ impl Sender {
 }
 
 // The bytes of a slot.
+#[tactic(auto, using(frame::proofs::Access::part_from))]
 pub(crate) fn slot_in(waiting: &[u8], slot: usize) -> &[u8]
     requires { (waiting_size ≤ length waiting.now) × (slot < slots) }
     ensures { result.now ≡ slot_in waiting.now slot }
@@ -100,6 +104,7 @@ pub(crate) fn slot_in(waiting: &[u8], slot: usize) -> &[u8]
 }
 
 // The lowest free slot; the number of slots where all are taken.
+#[tactic(auto, unfolding(crate::specs::Waiting::free_in))]
 pub(crate) fn free_in(taken: [u8; Config::SLOTS]) -> usize
     ensures { (result ≡ free_in taken) × (result ≤ slots) }
 {

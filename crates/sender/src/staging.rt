@@ -8,6 +8,7 @@ use crate::Sender;
 use config::Config;
 
 // Whether these are 1 to n, each once.
+#[tactic(auto, using(crate::proofs::Stages::entries_bytes, crate::proofs::Stages::column_bytes), unfolding(crate::specs::Stage::permutes))]
 pub(crate) fn permutes(n: u8, permutation: &[u8]) -> bool
     ensures { result ≡ permutes n permutation.now }
 {
@@ -41,6 +42,7 @@ impl Sender {
 }
 
 // The stage that holds a place, counted from 1; past the last one where none does.
+#[tactic(auto, unfolding(crate::specs::Stage::stage_of))]
 pub(crate) fn stage_for(config: Config, place: u8) -> usize
     requires { config.stages ≤ most_stages }
     ensures { (result ≡ stage_for config place) × (result ≤ config.stages + 1) }

@@ -1,0 +1,14 @@
+-- A node is made, and the run goes on (`first_goes`).
+use Rattle.std.proofs.Common.{ℕ, sym, ap, ◌∙◌, take}
+use Rattle.node.specs.Calls.{fresh_of}
+use Rattle.epochline.specs.Lines.{config_in}
+use Rattle.epochline.specs.Machine.{machine}
+use Rattle.epochline.proofs.Turns.{leaves_silent, first_goes}
+use Rattle.epochline.proofs.Program.first_turn.Goals as goal
+
+pub returns-then-is_done : goal.returns-then-is_done
+returns-then-is_done c outbox kept signatures =
+    let p = c.args.self in
+    let made = c.fresh-made.ensures ∙ ap fresh_of (c.config_in.ensures ∙ ap (λ (n : ℕ). config_in (take n p.line)) c.line_end-end.ensures) in
+    leaves_silent c.on_line.ensures
+    (first_goes (machine p outbox kept signatures) c.fresh-made.result made (sym c.is_done.ensures ∙ c.if-is_done.true))

@@ -1,0 +1,7 @@
+-- `Follower::takes` meets its contract: each kind with a rule has an arm that promises its conditions, and the others are not a follower's.
+use Rattle.frame.specs.Decode.{message_of}
+use Rattle.follower.proofs.Follower.takes.Goals as goal
+
+pub returns-in-7 : goal.returns-in-7
+unfolding message_of
+returns-in-7 c = rw c.in-7.is (c.takes_echo.ensures c.args.leader)

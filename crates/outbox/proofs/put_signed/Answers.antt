@@ -1,0 +1,28 @@
+-- An entry is what `put_observation` lays and, behind it, what `put_signature` lays.
+use Rattle.std.proofs.Common.{◌≡◌, ◌+◌, arith, get_or}
+use Rattle.std.proofs.lemmas.List.{length-map}
+use Rattle.std.proofs.Math.ListN.{get_or-map}
+use Rattle.wire.specs.Numbers.{be_bytes}
+use Rattle.frame.specs.Table.{table, shape_of}
+use Rattle.frame.specs.Encode.{observation_bytes, signed_bytes}
+use Rattle.outbox.specs.Written.{observed, signature_of}
+use Rattle.outbox.proofs.Runs.{laid_two, run_start, run_next}
+use Rattle.outbox.proofs.Frames.{signed, signed_even}
+use Rattle.outbox.proofs.put_signed.Goals as goal
+
+pub loop-i-init : goal.loop-i-init
+loop-i-init c = run_start (length-map c.args.order.now (signed c.args.values.now c.args.signatures.now))
+
+pub loop-i-preserved : goal.loop-i-preserved
+unfolding signed_bytes observation_bytes be_bytes shape_of table
+loop-i-preserved c =
+    let a = c.args in
+    let l = c.loop-i in
+    let order = a.order.now in
+    let j = get_or order l.i 0 in
+    let place : l.p + c.stride.result ≡ l.p + 9 = omega arith in
+    run_next l.invariant (signed_even a.n order a.signatures.now c.requires.1 c.requires.3 a.values.now) c.loop-i-test.true
+    (get_or-map (signed a.values.now a.signatures.now) order l.i 0)
+    (laid_two l.out c.put_observation.new.out c.put_signature.new.out l.p (observation_bytes (observed a.values.now j)) (l.p + c.stride.result)
+    (signature_of a.signatures.now j) c.put_observation.ensures c.put_signature.ensures place)
+    (omega arith)
