@@ -3,33 +3,35 @@
 #![tactic(auto)]
 
 use config::Config;
-use libc::{STDIN_FILENO, STDOUT_FILENO};
+use std::io;
+use std::io::{Input, Print};
 
 const CASE: usize = 20;
 
-fn main() {
+fn main(rt: HostRuntime) -> io::Result<()> {
     let mut turns = u64::MAX;
     while turns > 0 {
-        if !take_turn() {
-            return;
+        if !take_turn(&rt)? {
+            return Ok(());
         }
         turns -= 1;
     }
+    Ok(())
 }
 
 // One case; false where the input has ended.
-fn take_turn() -> bool {
+fn take_turn<R: Input + Print>(rt: &R) -> io::Result<bool> {
     let mut case = [0u8; CASE];
-    let n = io::read_full(STDIN_FILENO, &mut case);
+    let n = show::read_full(rt, &mut case)?;
     if n < CASE {
-        return false;
+        return Ok(false);
     }
     if deviates(&case) {
-        io::write_all(STDOUT_FILENO, b"yes\n");
+        rt.write_all(b"yes\n")?;
     } else {
-        io::write_all(STDOUT_FILENO, b"no\n");
+        rt.write_all(b"no\n")?;
     }
-    true
+    Ok(true)
 }
 
 fn deviates(case: &[u8; CASE]) -> bool {

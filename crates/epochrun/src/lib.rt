@@ -1,14 +1,15 @@
 // A run of the epoch program that prints to standard output: what the two programs over it share.
 #![tactic(auto)]
 
-ghost use Rattle.std.specs.Prelude.{◌≡◌, replicate};
+ghost use Rattle.std.specs.Prelude.{◌≡◌, replicate, IfOk};
 ghost use Rattle.config.specs.Limits.{frame_size};
 ghost use Rattle.epochline.specs.Machine.{byte_turn, new_machine};
 ghost use Rattle.epochrun.specs.Run.{machine_of};
 
 use config::Config;
 use epochline::Program;
-use libc::STDOUT_FILENO;
+use std::io;
+use std::io::Print;
 
 // A run of the program, with the buffers that it lends to the library.
 #[derive(Clone, Copy)]
@@ -34,8 +35,8 @@ pub fn begin(outbox: [u8; Config::FRAME]) -> Run
 }
 
 // One byte of the input.
-pub fn feed(run: Run, byte: u8) -> Run
-    ensures { machine_of result ≡ (byte_turn (machine_of run) byte).machine_after }
+pub fn feed<R: Print>(rt: &R, run: Run, byte: u8) -> io::Result<Run>
+    ensures { IfOk result (λ r. machine_of r ≡ (byte_turn (machine_of run) byte).machine_after) }
 {
     let mut outbox = run.outbox;
     let mut kept = run.kept;
@@ -43,31 +44,31 @@ pub fn feed(run: Run, byte: u8) -> Run
     let program = run.program;
     let mut out = [0u8; Program::PRINTED];
     let fed = program.feed(byte, &mut outbox, &mut kept, &mut signatures, &mut out);
-    print(&out, fed.written);
+    print(rt, &out, fed.written)?;
     let program = fed.program;
-    Run {
+    Ok(Run {
         outbox,
         kept,
         signatures,
         program,
-    }
+    })
 }
 
 // The end of the input.
-pub fn end(run: Run) {
+pub fn end<R: Print>(rt: &R, run: Run) -> io::Result<()> {
     let mut outbox = run.outbox;
     let mut kept = run.kept;
     let mut signatures = run.signatures;
     let program = run.program;
     let mut out = [0u8; Program::PRINTED];
     let fed = program.end(&mut outbox, &mut kept, &mut signatures, &mut out);
-    print(&out, fed.written);
+    print(rt, &out, fed.written)
 }
 
-fn print(out: &[u8; Program::PRINTED], written: usize) {
+fn print<R: Print>(rt: &R, out: &[u8; Program::PRINTED], written: usize) -> io::Result<()> {
     let all: &[u8] = out;
     if all.len() < written {
-        return;
+        return Ok(());
     }
-    io::write_all(STDOUT_FILENO, &all[..written]);
+    rt.write_all(&all[..written])
 }

@@ -2,18 +2,18 @@
 #![tactic(auto)]
 
 use config::Config;
-use libc::STDIN_FILENO;
+use std::io;
 
-fn main() {
+fn main(rt: HostRuntime) -> io::Result<()> {
     let mut run = epochrun::begin([0u8; Config::FRAME]);
     let mut turns = u64::MAX;
     while turns > 0 {
         let mut byte = [0u8; 1];
-        if io::read_full(STDIN_FILENO, &mut byte) < 1 {
-            epochrun::end(run);
-            return;
+        if show::read_full(&rt, &mut byte)? < 1 {
+            return epochrun::end(&rt, run);
         }
-        run = epochrun::feed(run, byte[0]);
+        run = epochrun::feed(&rt, run, byte[0])?;
         turns -= 1;
     }
+    Ok(())
 }

@@ -7,35 +7,37 @@ mod writing;
 
 ghost use Rattle.std.specs.Prelude.{◌<◌, ◌^◌};
 
-use libc::{STDIN_FILENO, STDOUT_FILENO};
+use std::io;
+use std::io::{Input, Print};
 
-// How long `io::large_buffer` is: there is room for every length that two bytes can say.
+// How long the buffer of a case is: there is room for every length that two bytes can say.
 const CASE: usize = 65536;
 
-fn main() {
+fn main(rt: HostRuntime) -> io::Result<()> {
     let mut turns = u64::MAX;
     while turns > 0 {
-        if !take_turn() {
-            return;
+        if !take_turn(&rt)? {
+            return Ok(());
         }
         turns -= 1;
     }
+    Ok(())
 }
 
 // One case; false where the input has ended.
-fn take_turn() -> bool {
+fn take_turn<R: Input + Print>(rt: &R) -> io::Result<bool> {
     let mut long = [0u8; 2];
-    if io::read_full(STDIN_FILENO, &mut long) < 2 {
-        return false;
+    if show::read_full(rt, &mut long)? < 2 {
+        return Ok(false);
     }
     let n = number(&long);
-    let mut case = io::large_buffer();
-    if io::read_full(STDIN_FILENO, &mut case[..n]) < n {
-        return false;
+    let mut case = [0u8; CASE];
+    if show::read_full(rt, &mut case[..n])? < n {
+        return Ok(false);
     }
-    run(&case, n);
-    io::write_all(STDOUT_FILENO, b"\n");
-    true
+    run(rt, &case, n)?;
+    rt.write_all(b"\n")?;
+    Ok(true)
 }
 
 // The length that two bytes say.
@@ -47,21 +49,21 @@ fn number(long: &[u8; 2]) -> usize
 }
 
 // What the case of n bytes at the start of a buffer asks for.
-fn run(buffer: &[u8; CASE], n: usize)
+fn run<R: Print>(rt: &R, buffer: &[u8; CASE], n: usize) -> io::Result<()>
     requires { n < 2 ^ 16 }
 {
     let all: &[u8] = buffer;
     if n == 0 {
-        return;
+        return Ok(());
     }
-    answer(all[0], &all[..n]);
+    answer(rt, all[0], &all[..n])
 }
 
 // By the operation; nothing where it is none.
-fn answer(operation: u8, case: &[u8]) {
+fn answer<R: Print>(rt: &R, operation: u8, case: &[u8]) -> io::Result<()> {
     match operation {
-        b'R' => reading::read(case),
-        b'W' => writing::write(case),
-        _ => {}
+        b'R' => reading::read(rt, case),
+        b'W' => writing::write(rt, case),
+        _ => Ok(()),
     }
 }

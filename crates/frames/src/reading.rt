@@ -4,83 +4,87 @@ ghost use Rattle.std.specs.Prelude.{◌≡◌, ◌+◌, ◌*◌, ◌≤◌, leng
 ghost use Rattle.frame.specs.Table.{shape_of, body_length};
 ghost use Rattle.frame.specs.Decode.{count_in, list_place, signer_count_in};
 
-use libc::STDOUT_FILENO;
+use std::io;
+use std::io::Print;
 
 // Where the frame of a case begins: behind the operation, n, the link and the configuration number.
 const FRAME: usize = 11;
 
-pub fn read(case: &[u8]) {
+pub fn read<R: Print>(rt: &R, case: &[u8]) -> io::Result<()> {
     if case.len() < FRAME {
-        return;
+        return Ok(());
     }
-    read_frame(case[1], case[2], wire::get_u64(case, 3), &case[FRAME..]);
+    read_frame(rt, case[1], case[2], wire::get_u64(case, 3), &case[FRAME..])
 }
 
 #[tactic(auto, using(config::proofs::Facts::done_only, frame::proofs::Ranges::one_to, frame::proofs::Framed::checked_frame))]
-fn read_frame(n: u8, link: u8, number: u64, frame: &[u8]) {
+fn read_frame<R: Print>(rt: &R, n: u8, link: u8, number: u64, frame: &[u8]) -> io::Result<()> {
     let answer = frame::check(frame, n, number, link);
-    io::print_decimal(STDOUT_FILENO, answer.number() as u64);
+    rt.print(answer.number())?;
     if answer.is_done() {
-        say(frame::kind_of(frame), frame::body_of(frame));
+        say(rt, frame::kind_of(frame), frame::body_of(frame))?;
     }
+    Ok(())
 }
 
 // What a body of its kind's length says.
 #[tactic(auto, unfolding(frame::specs::Table::body_length, frame::specs::Table::shape_of, frame::specs::Table::table))]
-fn say(kind: u8, body: &[u8])
+fn say<R: Print>(rt: &R, kind: u8, body: &[u8]) -> io::Result<()>
     requires { (1 ≤ kind) × (kind ≤ 7) × (length body.now ≡ body_length kind (count_in body.now) (signer_count_in body.now)) }
 {
-    show::number(kind as u64);
+    show::number(rt, kind as u64)?;
     match kind {
-        1 => show::number(frame::epoch_of(body) as u64),
-        2 => say_head(body),
-        3 => say_observe(body),
-        4 => say_list(body, frame::stride(4)),
-        5 => say_list(body, frame::stride(5)),
-        _ => say_final(body),
+        1 => show::number(rt, frame::epoch_of(body) as u64),
+        2 => say_head(rt, body),
+        3 => say_observe(rt, body),
+        4 => say_list(rt, body, frame::stride(4)),
+        5 => say_list(rt, body, frame::stride(5)),
+        _ => say_final(rt, body),
     }
 }
 
-fn say_head(body: &[u8])
+fn say_head<R: Print>(rt: &R, body: &[u8]) -> io::Result<()>
     requires { 5 ≤ length body.now }
 {
-    show::number(frame::epoch_of(body) as u64);
-    show::number(frame::round_of(body) as u64);
+    show::number(rt, frame::epoch_of(body) as u64)?;
+    show::number(rt, frame::round_of(body) as u64)
 }
 
-fn say_observe(body: &[u8])
+fn say_observe<R: Print>(rt: &R, body: &[u8]) -> io::Result<()>
     requires { 13 ≤ length body.now }
 {
-    say_head(body);
-    show::number(wire::to_unsigned(frame::value_of(body)));
+    say_head(rt, body)?;
+    show::number(rt, wire::to_unsigned(frame::value_of(body)))
 }
 
 // The head, m, and member and value of each observation.
-fn say_list(body: &[u8], stride: usize)
+fn say_list<R: Print>(rt: &R, body: &[u8], stride: usize) -> io::Result<()>
     requires { ((shape_of 6).entry ≤ stride) × (list_place + count_in body.now * stride ≤ length body.now) }
 {
-    say_head(body);
+    say_head(rt, body)?;
     let m = frame::count_of(body);
-    show::number(m as u64);
+    show::number(rt, m as u64)?;
     let mut i: usize = 0;
     while i < m {
-        show::number(frame::member_at(body, stride, i) as u64);
-        show::number(wire::to_unsigned(frame::value_at(body, stride, i)));
+        show::number(rt, frame::member_at(body, stride, i) as u64)?;
+        show::number(rt, wire::to_unsigned(frame::value_at(body, stride, i)))?;
         i += 1;
     }
+    Ok(())
 }
 
 // What a list says, then s and the member of each signer.
 #[tactic(auto, unfolding(frame::specs::Table::body_length, frame::specs::Table::shape_of, frame::specs::Table::table))]
-fn say_final(body: &[u8])
+fn say_final<R: Print>(rt: &R, body: &[u8]) -> io::Result<()>
     requires { body_length 6 (count_in body.now) (signer_count_in body.now) ≤ length body.now }
 {
-    say_list(body, frame::stride(6));
+    say_list(rt, body, frame::stride(6))?;
     let s = frame::signer_count(body);
-    show::number(s as u64);
+    show::number(rt, s as u64)?;
     let mut i: usize = 0;
     while i < s {
-        show::number(frame::signer_at(body, i) as u64);
+        show::number(rt, frame::signer_at(body, i) as u64)?;
         i += 1;
     }
+    Ok(())
 }

@@ -5,6 +5,8 @@ ghost use Rattle.frame.specs.Table.{trailer_length};
 ghost use Rattle.frame.specs.Range.{all_members};
 
 use config::Config;
+use std::io;
+use std::io::Print;
 
 // How long the outbox is, and the byte that it is full of before.
 const OUTBOX: usize = 3000;
@@ -22,13 +24,13 @@ const VALUE: usize = 8;
 
 const VALUES: usize = 255;
 
-pub fn write(case: &[u8]) {
+pub fn write<R: Print>(rt: &R, case: &[u8]) -> io::Result<()> {
     if case.len() < SAID {
-        return;
+        return Ok(());
     }
     let at = wire::get_u16(case, 12) as usize;
     if OUTBOX < at + frame::TRAILER {
-        return;
+        return Ok(());
     }
     let schedule = [0u8; Config::STAGES];
     let config = Config::new(
@@ -45,21 +47,21 @@ pub fn write(case: &[u8]) {
     );
     let mut outbox = [BLANK; OUTBOX];
     let n = put(&mut outbox, at, config, case[1], &case[SAID..]);
-    show_outbox(&outbox, at, n);
+    show_outbox(rt, &outbox, at, n)
 }
 
 // The outbox up to a few bytes behind the frame of n bytes at a position, where there is one.
-fn show_outbox(outbox: &[u8], at: usize, n: usize)
+fn show_outbox<R: Print>(rt: &R, outbox: &[u8], at: usize, n: usize) -> io::Result<()>
     requires { at + trailer_length ≤ length outbox.now }
 {
     let left = outbox.len() - at - BEHIND;
     if n == 0 {
-        return;
+        return Ok(());
     }
     if left < n {
-        return;
+        return Ok(());
     }
-    show::hex(outbox, 0, at + n + BEHIND);
+    show::hex(rt, outbox, 0, at + n + BEHIND)
 }
 
 // By the kind; nothing where it is none.

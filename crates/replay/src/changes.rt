@@ -2,39 +2,49 @@
 ghost use Rattle.std.specs.Prelude.{◌+◌, ◌≤◌, length};
 
 use crate::lines;
+use std::io;
+use std::io::Print;
 
 // What stands at a place becomes this; what has changed is printed.
-pub fn settle(bytes: &mut [u8], letter: u8, at: usize, after: &[u8])
+pub fn settle<R: Print>(
+    rt: &R,
+    bytes: &mut [u8],
+    letter: u8,
+    at: usize,
+    after: &[u8],
+) -> io::Result<()>
     requires { at + length after.now ≤ length bytes.old }
 {
-    changes(letter, &bytes[..], at, after);
+    changes(rt, letter, &bytes[..], at, after)?;
     wire::copy(bytes, at, after, 0, after.len());
+    Ok(())
 }
 
 // The runs of bytes in which what comes after differs from what stands at a place, behind the letter of the thing; nothing where there are
 // none.
-fn changes(letter: u8, bytes: &[u8], at: usize, after: &[u8])
+fn changes<R: Print>(rt: &R, letter: u8, bytes: &[u8], at: usize, after: &[u8]) -> io::Result<()>
     requires { at + length after.now ≤ length bytes.now }
 {
     let first = next(bytes, at, after, 0, false);
     if first == after.len() {
-        return;
+        return Ok(());
     }
-    lines::say(b' ');
-    lines::say(letter);
-    runs(bytes, at, after, first);
+    lines::say(rt, b' ')?;
+    lines::say(rt, letter)?;
+    runs(rt, bytes, at, after, first)
 }
 
 // The runs from a changed byte on.
-fn runs(bytes: &[u8], at: usize, after: &[u8], first: usize)
+fn runs<R: Print>(rt: &R, bytes: &[u8], at: usize, after: &[u8], first: usize) -> io::Result<()>
     requires { (at + length after.now ≤ length bytes.now) × (first ≤ length after.now) }
 {
     let mut i = first;
     while i < after.len() {
         let end = next(bytes, at, after, i + 1, true);
-        run(after, i, end);
+        run(rt, after, i, end)?;
         i = next(bytes, at, after, end, false);
     }
+    Ok(())
 }
 
 // The first byte from a place on that is the same as before, or that is not; the length where there is none.
@@ -53,11 +63,11 @@ fn next(bytes: &[u8], at: usize, after: &[u8], from: usize, same: bool) -> usize
 }
 
 // One run: its place, and its bytes.
-fn run(after: &[u8], first: usize, end: usize)
+fn run<R: Print>(rt: &R, after: &[u8], first: usize, end: usize) -> io::Result<()>
     requires { end ≤ length after.now }
 {
-    lines::say(b'@');
-    lines::decimal(first as u64);
-    lines::say(b':');
-    show::hex(after, first, end);
+    lines::say(rt, b'@')?;
+    lines::decimal(rt, first as u64)?;
+    lines::say(rt, b':')?;
+    show::hex(rt, after, first, end)
 }

@@ -9,13 +9,14 @@ mod node_calls;
 mod node_image;
 mod sender_calls;
 
-ghost use Rattle.std.specs.Prelude.{◌≤◌, length};
+ghost use Rattle.std.specs.Prelude.{◌≤◌, length, IfOk};
 ghost use Rattle.image.specs.Memory.{memory_size, Within};
 ghost use Rattle.replay.specs.Records.{longest_record};
 
 use image::memory;
 use image::memory::Lengths;
-use libc::STDIN_FILENO;
+use std::io;
+use std::io::{Input, Print};
 
 // What a record came to: whether the run goes on, and how long the buffers are.
 #[derive(Clone, Copy)]
@@ -27,10 +28,10 @@ struct Turn {
 // The bytes before those of a record: its letter and its length.
 const HEAD: usize = 5;
 
-// How long `io::large_buffer` is: a longer record ends the run.
+// How long the buffer of a record is: a longer record ends the run.
 const RECORD: usize = 65536;
 
-fn main() {
+fn main(rt: HostRuntime) -> io::Result<()> {
     let mut bytes = [0u8; memory::SIZE];
     let mut lengths = Lengths {
         outbox: 0,
@@ -40,50 +41,68 @@ fn main() {
     };
     let mut turns = u64::MAX;
     while turns > 0 {
-        let turn = take_turn(&mut bytes, lengths);
+        let turn = take_turn(&rt, &mut bytes, lengths)?;
         if !turn.more {
-            return;
+            return Ok(());
         }
         lengths = turn.lengths;
         turns -= 1;
     }
+    Ok(())
 }
 
 // One record; the run ends where the input does.
-fn take_turn(bytes: &mut [u8; memory::SIZE], lengths: Lengths) -> Turn
+fn take_turn<R: Input + Print>(
+    rt: &R,
+    bytes: &mut [u8; memory::SIZE],
+    lengths: Lengths,
+) -> io::Result<Turn>
     requires { Within lengths }
-    ensures { Within result.lengths }
+    ensures { IfOk result (λ turn. Within turn.lengths) }
 {
     let mut head = [0u8; HEAD];
-    if io::read_full(STDIN_FILENO, &mut head) < HEAD {
-        return ended(lengths);
+    if show::read_full(rt, &mut head)? < HEAD {
+        return Ok(ended(lengths));
     }
     let n = length_in(&head);
     if RECORD < n {
-        return ended(lengths);
+        return Ok(ended(lengths));
     }
-    take_record(bytes, lengths, letter_in(&head), n)
+    take_record(rt, bytes, lengths, letter_in(&head), n)
 }
 
 // The n bytes of a record.
-fn take_record(bytes: &mut [u8; memory::SIZE], lengths: Lengths, letter: u8, n: usize) -> Turn
+fn take_record<R: Input + Print>(
+    rt: &R,
+    bytes: &mut [u8; memory::SIZE],
+    lengths: Lengths,
+    letter: u8,
+    n: usize,
+) -> io::Result<Turn>
     requires { Within lengths × (n ≤ longest_record) }
-    ensures { Within result.lengths }
+    ensures { IfOk result (λ turn. Within turn.lengths) }
 {
-    let mut said = io::large_buffer();
-    if io::read_full(STDIN_FILENO, &mut said[..n]) < n {
-        return ended(lengths);
+    let mut said = [0u8; RECORD];
+    if show::read_full(rt, &mut said[..n])? < n {
+        return Ok(ended(lengths));
     }
-    obey_first(bytes, lengths, letter, &said, n)
+    obey_first(rt, bytes, lengths, letter, &said, n)
 }
 
 // The record is the first n bytes of a buffer.
-fn obey_first(bytes: &mut [u8], lengths: Lengths, letter: u8, said: &[u8; RECORD], n: usize) -> Turn
+fn obey_first<R: Print>(
+    rt: &R,
+    bytes: &mut [u8],
+    lengths: Lengths,
+    letter: u8,
+    said: &[u8; RECORD],
+    n: usize,
+) -> io::Result<Turn>
     requires { (memory_size ≤ length bytes.old) × Within lengths × (n ≤ longest_record) }
-    ensures { Within result.lengths }
+    ensures { IfOk result (λ turn. Within turn.lengths) }
 {
     let all: &[u8] = said;
-    obey(bytes, lengths, letter, &all[..n])
+    obey(rt, bytes, lengths, letter, &all[..n])
 }
 
 fn letter_in(head: &[u8; HEAD]) -> u8 {
@@ -95,20 +114,26 @@ fn length_in(head: &[u8; HEAD]) -> usize {
 }
 
 // By the letter: a buffer is set, an image is set, or a call is made.
-fn obey(bytes: &mut [u8], lengths: Lengths, letter: u8, said: &[u8]) -> Turn
+fn obey<R: Print>(
+    rt: &R,
+    bytes: &mut [u8],
+    lengths: Lengths,
+    letter: u8,
+    said: &[u8],
+) -> io::Result<Turn>
     requires { (memory_size ≤ length bytes.old) × Within lengths }
-    ensures { Within result.lengths }
+    ensures { IfOk result (λ turn. Within turn.lengths) }
 {
     match letter {
-        b'o' | b'k' | b'g' | b'w' => fill(bytes, lengths, letter, said),
-        b'n' | b's' | b'c' => Turn {
+        b'o' | b'k' | b'g' | b'w' => Ok(fill(bytes, lengths, letter, said)),
+        b'n' | b's' | b'c' => Ok(Turn {
             more: put(bytes, letter, said),
             lengths,
-        },
-        _ => Turn {
-            more: call(bytes, lengths, letter, said),
+        }),
+        _ => Ok(Turn {
+            more: call(rt, bytes, lengths, letter, said)?,
             lengths,
-        },
+        }),
     }
 }
 
@@ -150,13 +175,19 @@ fn put(bytes: &mut [u8], letter: u8, said: &[u8]) -> bool
 }
 
 // A call is made; false where the letter is none, or the record is not as long as the letter's.
-fn call(bytes: &mut [u8], lengths: Lengths, letter: u8, said: &[u8]) -> bool
+fn call<R: Print>(
+    rt: &R,
+    bytes: &mut [u8],
+    lengths: Lengths,
+    letter: u8,
+    said: &[u8],
+) -> io::Result<bool>
     requires { (memory_size ≤ length bytes.old) × Within lengths }
 {
     match letter {
-        b'F' | b'R' | b'S' | b'D' | b'T' => node_calls::call(bytes, lengths, letter, said),
-        b'f' | b'X' | b'O' => sender_calls::call(bytes, lengths, letter, said),
-        b'm' | b'B' | b'P' | b'W' => contract_calls::call(bytes, letter, said),
-        _ => false,
+        b'F' | b'R' | b'S' | b'D' | b'T' => node_calls::call(rt, bytes, lengths, letter, said),
+        b'f' | b'X' | b'O' => sender_calls::call(rt, bytes, lengths, letter, said),
+        b'm' | b'B' | b'P' | b'W' => contract_calls::call(rt, bytes, letter, said),
+        _ => Ok(false),
     }
 }

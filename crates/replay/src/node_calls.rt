@@ -8,6 +8,8 @@ use config::{Commit, Saved};
 use image::memory;
 use image::memory::Lengths;
 use node::{Fired, Made, Node, Outcome};
+use std::io;
+use std::io::Print;
 
 // The bytes of each record; of a delivery, those before its frame.
 const RESTORE: usize = image::CONFIG + 8;
@@ -33,90 +35,102 @@ struct Arrival {
 }
 
 // By the letter; false where the record is not as long as the letter's.
-pub fn call(bytes: &mut [u8], lengths: Lengths, letter: u8, said: &[u8]) -> bool
+pub fn call<R: Print>(
+    rt: &R,
+    bytes: &mut [u8],
+    lengths: Lengths,
+    letter: u8,
+    said: &[u8],
+) -> io::Result<bool>
     requires { (memory_size ≤ length bytes.old) × Within lengths }
 {
     match letter {
-        b'F' => fresh(bytes, said),
-        b'R' => restore(bytes, said),
-        b'S' => start(bytes, lengths, said),
-        b'D' => deliver(bytes, lengths, said),
-        _ => timer(bytes, lengths, said),
+        b'F' => fresh(rt, bytes, said),
+        b'R' => restore(rt, bytes, said),
+        b'S' => start(rt, bytes, lengths, said),
+        b'D' => deliver(rt, bytes, lengths, said),
+        _ => timer(rt, bytes, lengths, said),
     }
 }
 
-fn fresh(bytes: &mut [u8], said: &[u8]) -> bool
+fn fresh<R: Print>(rt: &R, bytes: &mut [u8], said: &[u8]) -> io::Result<bool>
     requires { memory_size ≤ length bytes.old }
 {
     if said.len() != image::CONFIG {
-        return false;
+        return Ok(false);
     }
-    made(bytes, b'F', Node::fresh(image::config_at(said, 0)));
-    true
+    made(rt, bytes, b'F', Node::fresh(image::config_at(said, 0)))?;
+    Ok(true)
 }
 
-fn restore(bytes: &mut [u8], said: &[u8]) -> bool
+fn restore<R: Print>(rt: &R, bytes: &mut [u8], said: &[u8]) -> io::Result<bool>
     requires { memory_size ≤ length bytes.old }
 {
     if said.len() != RESTORE {
-        return false;
+        return Ok(false);
     }
     let config = image::config_at(said, 0);
     let saved = Saved {
         epoch: wire::get_u32(said, image::CONFIG),
         highest: wire::get_u32(said, image::CONFIG + 4),
     };
-    made(bytes, b'R', Node::restore(config, saved));
-    true
+    made(rt, bytes, b'R', Node::restore(config, saved))?;
+    Ok(true)
 }
 
 // A node that was made takes the place of the one before.
-fn made(bytes: &mut [u8], letter: u8, made: Made)
+fn made<R: Print>(rt: &R, bytes: &mut [u8], letter: u8, made: Made) -> io::Result<()>
     requires { memory_size ≤ length bytes.old }
 {
     let answer = made.answer;
-    lines::begin(letter, answer);
-    settle(bytes, made.node);
-    lines::end();
+    lines::begin(rt, letter, answer)?;
+    settle(rt, bytes, made.node)?;
+    lines::end(rt)
 }
 
-fn settle(bytes: &mut [u8], node: Node)
+fn settle<R: Print>(rt: &R, bytes: &mut [u8], node: Node) -> io::Result<()>
     requires { memory_size ≤ length bytes.old }
 {
     let mut after = [0u8; image::NODE];
     node_image::put_node(&mut after, node);
-    changes::settle(bytes, b'n', memory::NODE_AT, &after);
+    changes::settle(rt, bytes, b'n', memory::NODE_AT, &after)
 }
 
 // A node's answer and results, and the node.
-fn came(bytes: &mut [u8], letter: u8, outcome: Outcome)
+fn came<R: Print>(rt: &R, bytes: &mut [u8], letter: u8, outcome: Outcome) -> io::Result<()>
     requires { memory_size ≤ length bytes.old }
 {
     let answer = outcome.answer;
-    lines::begin(letter, answer);
-    lines::outcome(outcome);
-    settle(bytes, outcome.node);
+    lines::begin(rt, letter, answer)?;
+    lines::outcome(rt, outcome)?;
+    settle(rt, bytes, outcome.node)
 }
 
-fn start(bytes: &mut [u8], lengths: Lengths, said: &[u8]) -> bool
+fn start<R: Print>(rt: &R, bytes: &mut [u8], lengths: Lengths, said: &[u8]) -> io::Result<bool>
     requires { (memory_size ≤ length bytes.old) × Within lengths }
 {
     if said.len() != START {
-        return false;
+        return Ok(false);
     }
     let o = lengths.outbox;
     let mut outbox = memory::outbox_in(&bytes[..]);
-    starting(bytes, lengths, said, &mut outbox[..o]);
-    true
+    starting(rt, bytes, lengths, said, &mut outbox[..o])?;
+    Ok(true)
 }
 
-fn starting(bytes: &mut [u8], lengths: Lengths, said: &[u8], outbox: &mut [u8])
+fn starting<R: Print>(
+    rt: &R,
+    bytes: &mut [u8],
+    lengths: Lengths,
+    said: &[u8],
+    outbox: &mut [u8],
+) -> io::Result<()>
     requires { (memory_size ≤ length bytes.old) × Within lengths × (start_size ≤ length said.now) × (length outbox.old ≤ outbox_room) }
 {
     let outcome = started(&bytes[..], lengths, said, outbox);
-    came(bytes, b'S', outcome);
-    changes::settle(bytes, b'o', memory::OUTBOX_AT, &outbox[..]);
-    lines::end();
+    came(rt, bytes, b'S', outcome)?;
+    changes::settle(rt, bytes, b'o', memory::OUTBOX_AT, &outbox[..])?;
+    lines::end(rt)
 }
 
 fn started(bytes: &[u8], lengths: Lengths, said: &[u8], outbox: &mut [u8]) -> Outcome
@@ -134,11 +148,11 @@ fn started(bytes: &[u8], lengths: Lengths, said: &[u8], outbox: &mut [u8]) -> Ou
     )
 }
 
-fn deliver(bytes: &mut [u8], lengths: Lengths, said: &[u8]) -> bool
+fn deliver<R: Print>(rt: &R, bytes: &mut [u8], lengths: Lengths, said: &[u8]) -> io::Result<bool>
     requires { (memory_size ≤ length bytes.old) × Within lengths }
 {
     if said.len() < DELIVERY {
-        return false;
+        return Ok(false);
     }
     let o = lengths.outbox;
     let k = lengths.kept;
@@ -147,37 +161,45 @@ fn deliver(bytes: &mut [u8], lengths: Lengths, said: &[u8]) -> bool
     let mut kept = memory::kept_in(&bytes[..]);
     let mut signatures = memory::signatures_in(&bytes[..]);
     delivering(
+        rt,
         bytes,
         said,
         &mut outbox[..o],
         &mut kept[..k],
         &mut signatures[..g],
-    );
-    true
+    )?;
+    Ok(true)
 }
 
-fn delivering(
+fn delivering<R: Print>(
+    rt: &R,
     bytes: &mut [u8],
     said: &[u8],
     outbox: &mut [u8],
     kept: &mut [u8],
     signatures: &mut [u8],
-)
+) -> io::Result<()>
     requires { (memory_size ≤ length bytes.old) × (delivery_size ≤ length said.now) × (length outbox.old ≤ outbox_room) × (length kept.old ≤ kept_room) × (length signatures.old ≤ signatures_room) }
 {
     let outcome = delivered(&bytes[..], said, outbox, kept, signatures);
-    came(bytes, b'D', outcome);
-    settle_buffers(bytes, &outbox[..], &kept[..], &signatures[..]);
+    came(rt, bytes, b'D', outcome)?;
+    settle_buffers(rt, bytes, &outbox[..], &kept[..], &signatures[..])
 }
 
 // The rest of a delivery's line.
-fn settle_buffers(bytes: &mut [u8], outbox: &[u8], kept: &[u8], signatures: &[u8])
+fn settle_buffers<R: Print>(
+    rt: &R,
+    bytes: &mut [u8],
+    outbox: &[u8],
+    kept: &[u8],
+    signatures: &[u8],
+) -> io::Result<()>
     requires { (memory_size ≤ length bytes.old) × (length outbox.now ≤ outbox_room) × (length kept.now ≤ kept_room) × (length signatures.now ≤ signatures_room) }
 {
-    changes::settle(bytes, b'o', memory::OUTBOX_AT, outbox);
-    changes::settle(bytes, b'k', memory::KEPT_AT, kept);
-    changes::settle(bytes, b'g', memory::SIGNATURES_AT, signatures);
-    lines::end();
+    changes::settle(rt, bytes, b'o', memory::OUTBOX_AT, outbox)?;
+    changes::settle(rt, bytes, b'k', memory::KEPT_AT, kept)?;
+    changes::settle(rt, bytes, b'g', memory::SIGNATURES_AT, signatures)?;
+    lines::end(rt)
 }
 
 fn delivered(
@@ -218,16 +240,16 @@ fn arrival_in(said: &[u8]) -> Arrival
     }
 }
 
-fn timer(bytes: &mut [u8], lengths: Lengths, said: &[u8]) -> bool
+fn timer<R: Print>(rt: &R, bytes: &mut [u8], lengths: Lengths, said: &[u8]) -> io::Result<bool>
     requires { (memory_size ≤ length bytes.old) × Within lengths }
 {
     if said.len() != TIMER {
-        return false;
+        return Ok(false);
     }
     if GRACE < said[0] {
-        return unnamed(bytes, lengths, said);
+        return unnamed(rt, bytes, lengths, said);
     }
-    fires(bytes, lengths, said, fired_by(said[0]))
+    fires(rt, bytes, lengths, said, fired_by(said[0]))
 }
 
 // The four timers by their numbers.
@@ -241,13 +263,13 @@ fn fired_by(number: u8) -> Fired {
 }
 
 // A timer that is none of the four changes nothing, so the buffers are lent as they lie.
-fn unnamed(bytes: &mut [u8], lengths: Lengths, said: &[u8]) -> bool
+fn unnamed<R: Print>(rt: &R, bytes: &mut [u8], lengths: Lengths, said: &[u8]) -> io::Result<bool>
     requires { (memory_size ≤ length bytes.old) × Within lengths × (timer_size ≤ length said.now) }
 {
     let outcome = unarmed(&bytes[..], lengths, said);
-    came(bytes, b'T', outcome);
-    lines::end();
-    true
+    came(rt, bytes, b'T', outcome)?;
+    lines::end(rt)?;
+    Ok(true)
 }
 
 fn unarmed(bytes: &[u8], lengths: Lengths, said: &[u8]) -> Outcome
@@ -266,7 +288,13 @@ fn unarmed(bytes: &[u8], lengths: Lengths, said: &[u8]) -> Outcome
     )
 }
 
-fn fires(bytes: &mut [u8], lengths: Lengths, said: &[u8], fired: Fired) -> bool
+fn fires<R: Print>(
+    rt: &R,
+    bytes: &mut [u8],
+    lengths: Lengths,
+    said: &[u8],
+    fired: Fired,
+) -> io::Result<bool>
     requires { (memory_size ≤ length bytes.old) × Within lengths × (timer_size ≤ length said.now) }
 {
     let o = lengths.outbox;
@@ -274,31 +302,33 @@ fn fires(bytes: &mut [u8], lengths: Lengths, said: &[u8], fired: Fired) -> bool
     let mut outbox = memory::outbox_in(&bytes[..]);
     let mut signatures = memory::signatures_in(&bytes[..]);
     firing(
+        rt,
         bytes,
         lengths,
         said,
         fired,
         &mut outbox[..o],
         &mut signatures[..g],
-    );
-    true
+    )?;
+    Ok(true)
 }
 
-fn firing(
+fn firing<R: Print>(
+    rt: &R,
     bytes: &mut [u8],
     lengths: Lengths,
     said: &[u8],
     fired: Fired,
     outbox: &mut [u8],
     signatures: &mut [u8],
-)
+) -> io::Result<()>
     requires { (memory_size ≤ length bytes.old) × Within lengths × (timer_size ≤ length said.now) × (length outbox.old ≤ outbox_room) × (length signatures.old ≤ signatures_room) }
 {
     let outcome = timed(&bytes[..], lengths, said, fired, outbox, signatures);
-    came(bytes, b'T', outcome);
-    changes::settle(bytes, b'o', memory::OUTBOX_AT, &outbox[..]);
-    changes::settle(bytes, b'g', memory::SIGNATURES_AT, &signatures[..]);
-    lines::end();
+    came(rt, bytes, b'T', outcome)?;
+    changes::settle(rt, bytes, b'o', memory::OUTBOX_AT, &outbox[..])?;
+    changes::settle(rt, bytes, b'g', memory::SIGNATURES_AT, &signatures[..])?;
+    lines::end(rt)
 }
 
 fn timed(

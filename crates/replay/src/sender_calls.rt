@@ -7,6 +7,8 @@ use crate::{changes, lines};
 use image::memory;
 use image::memory::Lengths;
 use sender::{Queued, Released, Sender};
+use std::io;
+use std::io::Print;
 
 // The bytes of a record of a timeout, and of one of a transmission before its permutation.
 const TIMEOUT: usize = 8 + image::COMMIT;
@@ -14,52 +16,58 @@ const TIMEOUT: usize = 8 + image::COMMIT;
 const TRANSMISSION: usize = TIMEOUT + 1;
 
 // By the letter; false where the record is not as long as the letter's.
-pub fn call(bytes: &mut [u8], lengths: Lengths, letter: u8, said: &[u8]) -> bool
+pub fn call<R: Print>(
+    rt: &R,
+    bytes: &mut [u8],
+    lengths: Lengths,
+    letter: u8,
+    said: &[u8],
+) -> io::Result<bool>
     requires { (memory_size ≤ length bytes.old) × Within lengths }
 {
     match letter {
-        b'f' => fresh(bytes, said),
-        b'X' => transmit(bytes, lengths, said),
-        _ => timeout(bytes, lengths, said),
+        b'f' => fresh(rt, bytes, said),
+        b'X' => transmit(rt, bytes, lengths, said),
+        _ => timeout(rt, bytes, lengths, said),
     }
 }
 
-fn fresh(bytes: &mut [u8], said: &[u8]) -> bool
+fn fresh<R: Print>(rt: &R, bytes: &mut [u8], said: &[u8]) -> io::Result<bool>
     requires { memory_size ≤ length bytes.old }
 {
     if said.len() != image::CONFIG {
-        return false;
+        return Ok(false);
     }
     let made = Sender::fresh(image::config_at(said, 0));
     let answer = made.answer;
-    lines::begin(b'f', answer);
-    settle(bytes, made.sender);
-    lines::end();
-    true
+    lines::begin(rt, b'f', answer)?;
+    settle(rt, bytes, made.sender)?;
+    lines::end(rt)?;
+    Ok(true)
 }
 
-fn settle(bytes: &mut [u8], sender: Sender)
+fn settle<R: Print>(rt: &R, bytes: &mut [u8], sender: Sender) -> io::Result<()>
     requires { memory_size ≤ length bytes.old }
 {
     let mut after = [0u8; image::SENDER];
     image::put_sender(&mut after, sender);
-    changes::settle(bytes, b's', memory::SENDER_AT, &after);
+    changes::settle(rt, bytes, b's', memory::SENDER_AT, &after)
 }
 
-fn transmit(bytes: &mut [u8], lengths: Lengths, said: &[u8]) -> bool
+fn transmit<R: Print>(rt: &R, bytes: &mut [u8], lengths: Lengths, said: &[u8]) -> io::Result<bool>
     requires { (memory_size ≤ length bytes.old) × Within lengths }
 {
     if said.len() < TRANSMISSION {
-        return false;
+        return Ok(false);
     }
     let end = TRANSMISSION + counted(said[TIMEOUT]);
     if said.len() < end {
-        return false;
+        return Ok(false);
     }
     let w = lengths.waiting;
     let mut waiting = memory::waiting_in(&bytes[..]);
-    transmitting(bytes, said, end, &mut waiting[..w]);
-    true
+    transmitting(rt, bytes, said, end, &mut waiting[..w])?;
+    Ok(true)
 }
 
 // How many a byte counts.
@@ -70,13 +78,19 @@ fn counted(x: u8) -> usize
 }
 
 // The permutation ends at a place of the record, and the body follows.
-fn transmitting(bytes: &mut [u8], said: &[u8], end: usize, waiting: &mut [u8])
+fn transmitting<R: Print>(
+    rt: &R,
+    bytes: &mut [u8],
+    said: &[u8],
+    end: usize,
+    waiting: &mut [u8],
+) -> io::Result<()>
     requires { (memory_size ≤ length bytes.old) × (transmission_size ≤ end) × (end ≤ length said.now) × (length waiting.old ≤ waiting_room) }
 {
     let queued = transmitted(&bytes[..], said, end, waiting);
-    came(bytes, queued);
-    changes::settle(bytes, b'w', memory::WAITING_AT, &waiting[..]);
-    lines::end();
+    came(rt, bytes, queued)?;
+    changes::settle(rt, bytes, b'w', memory::WAITING_AT, &waiting[..])?;
+    lines::end(rt)
 }
 
 fn transmitted(bytes: &[u8], said: &[u8], end: usize, waiting: &mut [u8]) -> Queued
@@ -93,25 +107,25 @@ fn transmitted(bytes: &[u8], said: &[u8], end: usize, waiting: &mut [u8]) -> Que
 }
 
 // What a transmission came to, and the sender.
-fn came(bytes: &mut [u8], queued: Queued)
+fn came<R: Print>(rt: &R, bytes: &mut [u8], queued: Queued) -> io::Result<()>
     requires { memory_size ≤ length bytes.old }
 {
     let answer = queued.answer;
     let transmit = queued.transmit;
-    lines::begin(b'X', answer);
-    lines::transmit(transmit);
-    settle(bytes, queued.sender);
+    lines::begin(rt, b'X', answer)?;
+    lines::transmit(rt, transmit)?;
+    settle(rt, bytes, queued.sender)
 }
 
-fn timeout(bytes: &mut [u8], lengths: Lengths, said: &[u8]) -> bool
+fn timeout<R: Print>(rt: &R, bytes: &mut [u8], lengths: Lengths, said: &[u8]) -> io::Result<bool>
     requires { (memory_size ≤ length bytes.old) × Within lengths }
 {
     if said.len() != TIMEOUT {
-        return false;
+        return Ok(false);
     }
     let released = timed_out(&bytes[..], lengths, said);
-    left(bytes, released);
-    true
+    left(rt, bytes, released)?;
+    Ok(true)
 }
 
 fn timed_out(bytes: &[u8], lengths: Lengths, said: &[u8]) -> Released
@@ -127,14 +141,14 @@ fn timed_out(bytes: &[u8], lengths: Lengths, said: &[u8]) -> Released
 }
 
 // What a timeout came to, and the sender.
-fn left(bytes: &mut [u8], released: Released)
+fn left<R: Print>(rt: &R, bytes: &mut [u8], released: Released) -> io::Result<()>
     requires { memory_size ≤ length bytes.old }
 {
     let answer = released.answer;
     let transmit = released.transmit;
-    lines::begin(b'O', answer);
-    lines::transmit(transmit);
-    lines::part(released.handed);
-    settle(bytes, released.sender);
-    lines::end();
+    lines::begin(rt, b'O', answer)?;
+    lines::transmit(rt, transmit)?;
+    lines::part(rt, released.handed)?;
+    settle(rt, bytes, released.sender)?;
+    lines::end(rt)
 }

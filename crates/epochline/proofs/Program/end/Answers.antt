@@ -1,4 +1,4 @@
--- Where the line is empty and not the first one, it is none (`end_silent`).
+-- `Program::end` meets its contract: its test is the spec's (`end_silent`).
 use Rattle.std.proofs.Common.{refl}
 use Rattle.epochline.proofs.Turns.{leaves_silent, end_silent}
 use Rattle.epochline.proofs.Program.end.Goals as goal

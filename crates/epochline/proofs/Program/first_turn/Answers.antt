@@ -1,4 +1,4 @@
--- A node is made, and the run goes on (`first_goes`).
+-- `Program::first_turn` meets its contract: a node is made and the run goes on (`first_goes`), or no configuration is printed, as the search finds.
 use Rattle.std.proofs.Common.{ℕ, sym, ap, ◌∙◌, take}
 use Rattle.node.specs.Calls.{fresh_of}
 use Rattle.epochline.specs.Lines.{config_in}

@@ -1,4 +1,4 @@
--- The line's command ends the run (`later_ends`), or its call is printed (`later_goes`).
+-- `Program::later_turn` meets its contract: the line's command ends the run (`later_ends`), or its call is printed (`later_goes`).
 use Rattle.std.proofs.Common.{ℕ, sym, ap, ◌∙◌, take}
 use Rattle.epochline.specs.Lines.{command_of}
 use Rattle.epochline.proofs.Turns.{leaves, leaves_silent, later_ends, later_goes}

@@ -1,4 +1,4 @@
--- A run that has ended passes over its lines (`line_ended`).
+-- `Program::line_turn` meets its contract: the phase says which turn it is, and a run that has ended passes over its lines (`line_ended`).
 use Rattle.std.proofs.Common.{◌≢◌, refl, arith}
 use Rattle.epochline.proofs.Turns.{leaves_silent, line_ended}
 use Rattle.epochline.proofs.Program.line_turn.Goals as goal

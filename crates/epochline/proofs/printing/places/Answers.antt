@@ -1,4 +1,4 @@
--- After the loop nothing is left to count.
+-- `places` meets its contract: where the loop ends nothing is left to count (`more_none`).
 use Rattle.std.proofs.Common.{◌≡◌, ◌-◌, arith}
 use Rattle.epochline.proofs.Decimals.{more, more_none}
 use Rattle.epochline.proofs.printing.places.Goals as goal

@@ -1,6 +1,5 @@
 -- `print` meets its contract: each number is put behind those that stand.
-use Rattle.std.proofs.Common.{◌∙◌, [], ◌∷◌, ◌++◌}
-use native.Mathlib.Nat.{zero-add}
+use Rattle.std.proofs.Common.{◌∙◌, [], ◌∷◌, ◌++◌, zero-add}
 use Rattle.epochline.specs.Decimal.{decimal}
 use Rattle.epochline.proofs.Printed.{Stands, stands_then, stands_four}
 use Rattle.epochline.proofs.printing.print.Goals as goal

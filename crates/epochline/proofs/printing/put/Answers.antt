@@ -1,8 +1,7 @@
--- Before the loop no digit stands; each turn puts one (`put_next`, `put_rest`); then the character goes behind them (`over_next`).
-use Rattle.std.proofs.Common.{◌≡◌, ◌+◌, ◌-◌, ◌≤◌, [], ◌∷◌, ◌++◌, refl, sym, arith, length, length-append}
-use native.Mathlib.Nat.{div-one}
-use lib.ListN.{length-set}
-use lib.Seq.{drop-length}
+-- `put` meets its contract: before the loop no digit stands, a turn puts one (`put_next`, `put_rest`), and the character goes behind them all (`over_next`).
+use Rattle.std.proofs.Common.{◌≡◌, ◌+◌, ◌-◌, ◌≤◌, [], ◌∷◌, ◌++◌, refl, sym, arith, length, length-append, div-one}
+use Rattle.std.proofs.Math.ListN.{length-set}
+use Rattle.std.proofs.Math.Seq.{drop-length}
 use Rattle.wire.specs.Overlay.{over}
 use Rattle.wire.proofs.Overlay.{over_none, over_next}
 use Rattle.epochline.specs.Decimal.{decimal}

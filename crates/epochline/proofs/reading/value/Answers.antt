@@ -1,4 +1,4 @@
--- In a turn the character is a digit (`digits_at`), and the number has one digit more (`value_next`, `value_below`).
+-- `value` meets its contract: a turn reads a digit (`digits_at`), and x is the number with one digit more (`value_next`, `value_below`).
 use Rattle.std.proofs.Common.{◌-◌, arith, get_or}
 use Rattle.epochline.proofs.Decimals.{digits_at, value_next, value_below}
 use Rattle.epochline.proofs.reading.value.Goals as goal

@@ -1,0 +1,5 @@
+-- `frames::main` is safe and ends: its turns count down.
+use Rattle.frames.proofs.main.Given as goal
+
+abbrev pub decreases-loop-turns : goal.decreases-loop-turns
+decreases-loop-turns l = l.turns
