@@ -15,18 +15,34 @@ declaration, or whose proof the check searched for and did not find. Each functi
 where an edit holds several mistakes, no other function may be. A claim that is no function's is named by the file of its proof:
 `Claims.worked`.
 
-usage: tools/refused.py [ROOT]           after `rt ci`, which leaves the logs; says what is amiss, and then ends with status 1
+rt keeps no log of an edit, so each crate is proved once more in a copy of the tree, beside which each of its edits is tried. The logs
+stand in the folder LOGS afterwards, as CRATE/EDIT.log.
+
+usage: tools/refused.py [ROOT [LOGS]]    says what is amiss, and then ends with status 1; LOGS is target/must-fail below ROOT where it is left out
        tools/refused.py --list [ROOT]    a line for each mistake: crate/name, function, edit
 """
 
+import queue
 import re
+import shutil
+import subprocess
 import sys
+import tempfile
+import threading
 from pathlib import Path
 
 NAMED = re.compile(r"# ([a-z0-9_]+): [A-Z].*\.$")
 WHERE = re.compile(r"# in: (\S+)$")
-PROOF = re.compile(r"/proofs/(\S+?)(/Proof)?\.antt:\d+:\d+: error: (?:`(\S+)`: )?")
-SEARCH = re.compile(r"fn \w+::(\S+): no proof: .*`search` does not close")
+# an error in a function's own proof, or in a file of lemmas and claims
+ERROR = re.compile(r"(?:\./)?proofs/(\S+?)(?:/(Answers|Invariants|Proof))?\.antt:\d+:\d+: error: (?:`(\S+?)`: )?")
+# what an error says that is about another declaration, or about a name that the edit took away
+ELSEWHERE = re.compile(r"was not admitted|was rejected|was not checked|has no (field )?`|is not in scope|can be named from here")
+SEARCH = re.compile(r"fn \w+::(\S+): no proof: .*`search` did not prove")
+# a goal that a function leaves stands above the function's own line
+GOAL = re.compile(r"note: \S+:\d+:\d+: it is not proved that ")
+FUNCTION = re.compile(r"(?:fn|struct|enum) \w+::(\S+): (?:not proved|no proof)")
+# how many crates are tried at a time, each in a copy of its own
+COPIES = 2
 
 
 class Mistake:
@@ -64,10 +80,10 @@ def mistakes_of(text):
 
 def refused_in(log):
     """The functions, and the claims, that a log refuses for themselves."""
-    functions, claims = set(), set()
+    functions, claims, goals = set(), set(), False
     for line in log.splitlines():
-        error = PROOF.search(line)
-        if error and "was not admitted" not in line:
+        error = ERROR.match(line)
+        if error and not ELSEWHERE.search(line):
             path = error[1].replace("/", "::")
             if error[2]:
                 functions.add(path)
@@ -76,6 +92,12 @@ def refused_in(log):
         search = SEARCH.match(line)
         if search:
             functions.add(search[1])
+        goals = goals or bool(GOAL.match(line))
+        function = FUNCTION.match(line)
+        if function and goals:
+            functions.add(function[1])
+        if line.startswith(("fn ", "struct ", "enum ")):
+            goals = False
     return functions, claims
 
 
@@ -97,8 +119,90 @@ def edits(root):
         yield path.parts[-3], path.stem, path.read_text()
 
 
-def log_of(root, crate, label):
-    path = root / "target/must-fail" / crate / label / ".log"
+def changes_of(text):
+    """The changes that an edit makes: file, old text, new text."""
+    file, old = None, None
+    for line in text.splitlines():
+        if line.startswith("file: "):
+            file = line[len("file: ") :]
+        elif line.startswith("old: "):
+            old = line[len("old: ") :]
+        elif line.startswith("new:"):
+            yield file, old, line[len("new: ") :]
+
+
+def check(folder):
+    """What rt says of the crate in a folder."""
+    ran = subprocess.run(["rt", "check", "--jobs", "1"], cwd=folder, stdin=subprocess.DEVNULL, stdout=subprocess.PIPE, stderr=subprocess.STDOUT, text=True)
+    return ran.stdout
+
+
+def tried(folder, text):
+    """The log of the check of the crate in a folder with an edit, or None where the edit cannot be made."""
+    kept = {}
+    try:
+        for file, old, new in changes_of(text):
+            path = folder / file
+            held = path.read_text()
+            kept.setdefault(path, held)
+            if held.count(old) != 1:
+                return None
+            path.write_text(held.replace(old, new))
+        return check(folder)
+    finally:
+        for path, held in kept.items():
+            path.write_text(held)
+
+
+def copy_of(root, room):
+    """A copy of the sources of a tree, without what checks left there."""
+    shutil.copytree(root / "crates", room / "crates", ignore=shutil.ignore_patterns("out"))
+    for name in ("crates.txt", "HANDLES"):
+        if (root / name).exists():
+            shutil.copy(root / name, room / name)
+
+
+def try_crates(waiting, root, logs, failed):
+    """Tries the edits of the crates that are waiting, one crate after the other, in a copy of the tree."""
+    with tempfile.TemporaryDirectory(prefix="refused-") as made:
+        room = Path(made)
+        copy_of(root, room)
+        while True:
+            try:
+                crate, texts = waiting.get_nowait()
+            except queue.Empty:
+                return
+            folder = room / "crates" / crate
+            verdicts = [line for line in check(folder).splitlines() if line.startswith("logic=")]
+            if not verdicts or not verdicts[-1].startswith("logic=proved"):
+                failed.append(f"{crate} is not proved as it stands, so its edits are not tried")
+                continue
+            for label, text in texts:
+                log = tried(folder, text)
+                if log is not None:
+                    (logs / crate).mkdir(parents=True, exist_ok=True)
+                    (logs / crate / f"{label}.log").write_text(log)
+
+
+def try_all(root, logs):
+    """Tries every edit, and leaves the logs; what failed before an edit could be tried."""
+    shutil.rmtree(logs, ignore_errors=True)
+    waiting, failed = queue.Queue(), []
+    texts = {}
+    for crate, label, text in edits(root):
+        texts.setdefault(crate, []).append((label, text))
+    for crate in sorted(texts, key=lambda c: -len(texts[c])):
+        waiting.put((crate, texts[crate]))
+    workers = [threading.Thread(target=try_crates, args=(waiting, root, logs, failed)) for _ in range(COPIES)]
+    for worker in workers:
+        worker.start()
+    for worker in workers:
+        worker.join()
+    return failed
+
+
+def log_of(logs, crate, label):
+    path = logs / crate / f"{label}.log"
     return path.read_text() if path.exists() else None
 
 
@@ -108,10 +212,13 @@ def listed(root):
             print(f"{crate}/{m.name}", m.function, f"{label}.edit")
 
 
-def checked(root):
-    names, bad = set(), False
+def checked(root, logs):
+    names = set()
+    bad = try_all(root, logs)
+    for line in bad:
+        print(line)
     for crate, label, text in edits(root):
-        amiss = amiss_in(text, log_of(root, crate, label))
+        amiss = amiss_in(text, log_of(logs, crate, label))
         for m in mistakes_of(text)[0]:
             if (crate, m.name) in names:
                 amiss.append(f"another mistake of {crate} is called {m.name}")
@@ -119,13 +226,15 @@ def checked(root):
         for line in amiss:
             print(f"{crate}/{label}: {line}")
         bad = bad or bool(amiss)
-    return bad
+    return bool(bad)
 
 
 def main(words):
     listing = words[:1] == ["--list"]
-    root = Path(words[listing]) if len(words) > listing else Path(__file__).resolve().parent.parent
-    return listed(root) if listing else checked(root)
+    words = words[listing:]
+    root = Path(words[0]).resolve() if words else Path(__file__).resolve().parent.parent
+    logs = Path(words[1]).resolve() if len(words) > 1 else root / "target/must-fail"
+    return listed(root) if listing else checked(root, logs)
 
 
 if __name__ == "__main__":
