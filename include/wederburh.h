@@ -1,4 +1,4 @@
-/* Wederburh at the boundary to C: link with libhost.a, which `rt staticlib host` writes (x86-64 Linux).
+/* Wederburh at the boundary to C: link with libhost.a, which `rt lib` writes in crates/host (x86-64 Linux).
  *
  * Every struct holds numbers only, so any bytes in it are a value: a state that is out of range is answered with
  * WEDERBURH_STATE. The host lends each struct and buffer for the time of a call; they must be aligned, initialised, and no
