@@ -14,7 +14,7 @@ use Rattle.follower.specs.Rules.{follow_of}
 use Rattle.leader.specs.declared.Leader.{Leader}
 use Rattle.leader.specs.declared.Led.{Led}
 use Rattle.leader.specs.State.{no_round}
-use Rattle.leader.specs.Rules.{stays, next_round, observing, closing, reporting_from}
+use Rattle.leader.specs.Rules.{next_round, observing, closing, reporting_from}
 use Rattle.leader.proofs.Cases.{round_cases, observing_cases, reporting_cases}
 use Rattle.node.specs.Event.{Whole, Event, Effect}
 use Rattle.node.specs.Effects.{pacing, begun, moving, raising, following, leading}

@@ -1,8 +1,7 @@
 -- `Follower::follow` meets its contract: each kind with a rule has an arm that promises it, and a body that is kept is the bytes of the
 -- report that it carries.
-use Rattle.std.proofs.Common.{◌≡◌, ℕ, ◌≤◌, List, length, get_or, map, sym, ap, ◌∙◌, Fits, w8, w64, arith, rules}
+use Rattle.std.proofs.Common.{◌≡◌, ℕ, ◌≤◌, List, get_or, map, sym, ap, ◌∙◌, Fits, w8, w64, arith, rules}
 use Rattle.std.proofs.lemmas.Int.{to_z-of_z}
-use Rattle.config.specs.Limits.{kept_size}
 use Rattle.config.specs.declared.Answer.TheVariants.{Done}
 use Rattle.price.specs.Median.{median_of}
 use Rattle.frame.specs.Message.{Signed}
