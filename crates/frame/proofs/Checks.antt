@@ -1,18 +1,18 @@
 -- Laws of the checks: what each stage of `specs/Check.antt` answers, given the facts of its test.
 use mathlib.Core.Bool.{Bool, true, false, not, cond}
 use mathlib.Core.List.{List}
-use mathlib.Core.Path.{◌≡◌, refl, ap, ◌∙◌}
-use Prim.Native.Nat.{ℕ, ◌+◌, ◌-◌, ◌≤◌}
+use mathlib.Core.Path.{◌≡◌, refl, sym, ap, ap₂, ◌∙◌}
+use Prim.Native.Nat.{ℕ, ◌+◌, ◌-◌, ◌≤◌, ◌<◌}
 use native.Mathlib.Omega.{arith}
-use borrow.Author.Tests.{eq-eqb, ne_eqb}
-use lib.ListN.{length}
+use borrow.Author.Tests.{le-leb, lt-leb, eq-eqb, ne_eqb}
+use lib.ListN.{length, take, drop}
 use Rattle.config.specs.declared.Answer.{Answer}
-use Rattle.config.specs.declared.Answer.TheVariants.{Done, Length, Range}
+use Rattle.config.specs.declared.Answer.TheVariants.{Done, Short, Version, Kind, Sender, Length, Range}
 use Rattle.frame.specs.declared.BodyStart.TheVariants as start
 use Rattle.frame.specs.Table.{body_length, trailer_length}
-use Rattle.frame.specs.Decode.{count_in, signer_count_in, trailer_place, length_in, message_of}
+use Rattle.frame.specs.Decode.{count_in, signer_count_in, trailer_place, kind_in, sender_in, length_in, message_of}
 use Rattle.frame.specs.Range.{good_message}
-use Rattle.frame.specs.Check.{body_answer, too_short, body_start}
+use Rattle.frame.specs.Check.{body_answer, other_sender, other_feed, after_sender, after_kind, after_version, after_short, too_short, frame_answer, body_start}
 use Rattle.frame.proofs.Framed.{long_enough}
 
 -- ---- bodies
@@ -55,3 +55,65 @@ start_at f k e =
     let p = at_if (too_short f) (trailer_place f - length_in f) k e in
     let q = long_enough f p.0 in
     record { long = p.0; trailer = q.0; body = q.1; place = p.1 }
+
+-- ---- stages: what a frame is answered that is too short, and past each stage
+
+pub short_frame : (f : List ℕ) (n number link : ℕ) → start.Short ≡ body_start f → Short ≡ frame_answer f n number link
+unfolding frame_answer
+short_frame f n number link e = rw (start_short f e)
+
+long_if : (t : Bool) (p : ℕ) → (start.Short ≡ cond t start.Short (start.At p) → ⊥) → t ≡ false
+long_if true p h = absurd (h refl)
+long_if false p h = refl
+
+module _ (f : List ℕ) (n number link : ℕ) (s : start.Short ≡ body_start f → ⊥) where
+  not_short : too_short f ≡ false
+  unfolding body_start
+  not_short = long_if (too_short f) (trailer_place f - length_in f) s
+
+  pub another_feed : true ≡ other_feed f n number → Version ≡ frame_answer f n number link
+  unfolding frame_answer after_short
+  another_feed e = rw (not_short, sym e)
+
+  module _ (feed : false ≡ other_feed f n number) where
+    past_version : frame_answer f n number link ≡ after_version f n link
+    unfolding frame_answer after_short
+    past_version = rw (not_short, sym feed)
+
+    pub low_kind : kind_in f < 1 → Kind ≡ frame_answer f n number link
+    unfolding after_version
+    low_kind h = rw (past_version, lt-leb 1 (kind_in f) h)
+
+    pub high_kind : 7 < kind_in f → Kind ≡ frame_answer f n number link
+    unfolding after_version
+    high_kind h = rw (past_version, le-leb 1 (kind_in f) (omega arith), lt-leb (kind_in f) 7 h)
+
+    module _ (low : 1 ≤ kind_in f) (high : kind_in f ≤ 7) where
+      past_kind : frame_answer f n number link ≡ after_kind f n link
+      unfolding after_version
+      past_kind = rw (past_version, le-leb 1 (kind_in f) low, le-leb (kind_in f) 7 high)
+
+      pub another_sender : true ≡ other_sender (sender_in f) n link → Sender ≡ frame_answer f n number link
+      unfolding after_kind
+      another_sender e = rw (past_kind, sym e)
+
+      module _ (own : false ≡ other_sender (sender_in f) n link) where
+        past_sender : frame_answer f n number link ≡ after_sender f n
+        unfolding after_kind
+        past_sender = rw (past_kind, sym own)
+
+        pub bytes_before : (start.At 0 ≡ body_start f → ⊥) → Length ≡ frame_answer f n number link
+        unfolding after_sender body_start
+        bytes_before h =
+            let other : length_in f + trailer_length ≡ length f → ⊥ = λ e.
+            let z : 0 ≡ trailer_place f - length_in f = omega arith in
+            h (rw not_short (ap start.At z)) in
+            rw (past_sender, ne_eqb (length_in f + trailer_length) (length f) other)
+
+        pub whole_frame : (k : ℕ) (r : Answer) → start.At k ≡ body_start f → k ≡ 0 → r ≡ body_answer n (kind_in f) (take (trailer_place f - k) (drop k f)) → r ≡ frame_answer f n number link
+        unfolding after_sender
+        whole_frame k r at z e =
+            let p = start_at f k at in
+            let long : trailer_place f - k ≡ length_in f = omega arith in
+            rw (past_sender, eq-eqb (length_in f + trailer_length) (length f) (omega arith))
+            (e ∙ ap₂ (λ (m j : ℕ). body_answer n (kind_in f) (take m (drop j f))) long p.place)

@@ -10,7 +10,7 @@ use config::{Answer, Config};
 
 // Checks 4 to 9: what is wrong with a frame that came over the link of member `link`, in a feed of n members with this
 // configuration number. Done where nothing is.
-#[tactic(auto, using(crate::proofs::Checks::start_short, crate::proofs::Checks::start_at), unfolding(crate::specs::Check::frame_answer, crate::specs::Check::after_short, crate::specs::Check::after_version, crate::specs::Check::after_kind, crate::specs::Check::after_sender))]
+#[tactic(auto, using(crate::proofs::Checks::start_at, crate::proofs::Checks::short_frame, crate::proofs::Checks::another_feed, crate::proofs::Checks::low_kind, crate::proofs::Checks::high_kind, crate::proofs::Checks::another_sender, crate::proofs::Checks::bytes_before, crate::proofs::Checks::whole_frame))]
 pub fn check(frame: &[u8], n: u8, number: u64, link: u8) -> Answer
     ensures { result ≡ frame_answer frame.now n number link }
 {

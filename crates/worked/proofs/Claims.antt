@@ -1,4 +1,5 @@
 -- Each row computes; the epoch program's run is computed a line at a time, in its own crate.
+use Rattle.std.proofs.Common.{refl}
 use Rattle.config.specs.Codes.{number_of}
 use Rattle.price.specs.Deviation.{deviates}
 use Rattle.quorum.specs.First.{first_at}
@@ -9,4 +10,4 @@ use Rattle.worked.specs.Claims.{Worked}
 
 pub worked : Worked
 unfolding deviates number_of list_fault not_falling first_at destination_of
-worked = rw worked_run
+worked = rw worked_run refl
