@@ -13,13 +13,18 @@ use Rattle.frame.specs.Encode.{attested_bytes}
 use Rattle.frame.specs.Range.{good_attested}
 use Rattle.frame.specs.Claims.{WritableAttested}
 use Rattle.frame.proofs.Ranges.{good_attested_facts}
-use Rattle.frame.proofs.Readable.{final_fits}
+use Rattle.frame.specs.Decode.{Readable}
+use Rattle.frame.proofs.Readable.{readable_long, final_fits}
 use Rattle.frame.proofs.RoundTrip.{length_attested}
 use Rattle.frame.proofs.Fronts.{Stands}
 use Rattle.report.specs.Kept.{kept_bytes, keeping}
 
 pub length_kept : (body : List ℕ) → length body ≤ kept_size → length (kept_bytes body) ≡ kept_size
 length_kept body h = length-append body (replicate (kept_size - length body) 0) ∙ rw length-replicate (omega arith)
+
+-- a buffer of full size has the bytes of the longest report of n members
+pub kept_readable : (n : ℕ) (b : List ℕ) → n ≤ members → kept_size ≤ length b → Readable n b
+kept_readable n b few room = readable_long n b (omega (arith, final_fits n n few few))
 
 -- a report in range is short enough to be kept
 kept_fits : (n : ℕ) (a : Attested) → n ≤ members → good_attested n a ≡ true → WritableAttested a → length (attested_bytes a) ≤ kept_size

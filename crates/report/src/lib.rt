@@ -176,6 +176,7 @@ pub fn newer(epoch: u32, round: u8, than_epoch: u32, than_round: u8) -> bool
 }
 
 // Whether the body that a buffer of full size keeps is in range.
+#[tactic(auto, using(crate::proofs::Kept::kept_readable))]
 pub fn good_kept(buffer: &[u8], n: u8) -> bool
     requires { (n ≤ members) × (kept_size ≤ length buffer.now) }
     ensures { result ≡ good_attested n (attested_in buffer.now) }

@@ -14,7 +14,7 @@ accepted-contract-requires c =
     let a = c.args in
     let b = a.body.now in
     let answered = c.is_done.ensures ∙ ap (λ (r : Refusal). is_done r.answer) c.refusal-refusal.ensures in
-    let p = submit_passed a.self b a.transmitter a.time a.bits (sym answered ∙ c.if-is_done.true) in
+    let p = submit_passed a.self b a.transmitter _ _ (sym answered ∙ c.if-is_done.true) in
     let t = terms_facts a.self.terms (contract_facts a.self p.good).terms in
     let costs : cost a.self.terms (count_in b) ≤ a.self.ledger.fund = rw (length_entries observation_at (shape_of 6).entry (count_in b) (drop list_place b)) at p.range.report.fund in
     record {

@@ -1,5 +1,5 @@
 -- `Contract::withdraw` meets its contract: where the answer is DONE the member is one of the contract's, so its place is one of the accounts'.
-use Rattle.std.proofs.Common.{◌≡◌, ℕ, true, ◌<◌, sym, ap, ◌∙◌}
+use Rattle.std.proofs.Common.{◌≡◌, ℕ, true, ◌<◌, sym, ap, ◌∙◌, arith}
 use Rattle.config.specs.Limits.{members}
 use Rattle.config.specs.Codes.{is_done}
 use Rattle.contract.specs.declared.Contract.{Contract}
@@ -16,8 +16,10 @@ placed c member place h e =
 
 pub balance-amount-requires : goal.balance-amount-requires
 balance-amount-requires c =
-    placed c.args.self c.args.member _ (sym (c.is_done.ensures ∙ ap is_done c.withdraw_answer-answer.ensures) ∙ c.if-is_done.true) c.place_of-place.ensures
+    let h = placed c.args.self c.args.member c.place_of-place.result (sym (c.is_done.ensures ∙ ap is_done c.withdraw_answer-answer.ensures) ∙ c.if-is_done.true) c.place_of-place.ensures in
+    omega arith
 
 pub withdraw-ledger-requires : goal.withdraw-ledger-requires
 withdraw-ledger-requires c =
-    placed c.args.self c.args.member _ (sym (c.is_done.ensures ∙ ap is_done c.withdraw_answer-answer.ensures) ∙ c.if-is_done.true) c.place_of-place.ensures
+    let h = placed c.args.self c.args.member c.place_of-place.result (sym (c.is_done.ensures ∙ ap is_done c.withdraw_answer-answer.ensures) ∙ c.if-is_done.true) c.place_of-place.ensures in
+    omega arith
