@@ -131,10 +131,16 @@ def changes_of(text):
             yield file, old, line[len("new: ") :]
 
 
-def check(folder):
+def check(folder, *words):
     """What rt says of the crate in a folder."""
-    ran = subprocess.run(["rt", "check", "--jobs", "1"], cwd=folder, stdin=subprocess.DEVNULL, stdout=subprocess.PIPE, stderr=subprocess.STDOUT, text=True)
+    ran = subprocess.run(["rt", "check", *words], cwd=folder, stdin=subprocess.DEVNULL, stdout=subprocess.PIPE, stderr=subprocess.STDOUT, text=True)
     return ran.stdout
+
+
+def proved(folder):
+    """Whether the crate in a folder is proved as it stands."""
+    verdicts = [line for line in check(folder).splitlines() if line.startswith("logic=")]
+    return bool(verdicts) and verdicts[-1].startswith("logic=proved")
 
 
 def tried(folder, text):
@@ -148,7 +154,7 @@ def tried(folder, text):
             if held.count(old) != 1:
                 return None
             path.write_text(held.replace(old, new))
-        return check(folder)
+        return check(folder, "--jobs", "1")
     finally:
         for path, held in kept.items():
             path.write_text(held)
@@ -160,45 +166,47 @@ def copy_of(root, room):
     for name in ("crates.txt", "HANDLES"):
         if (root / name).exists():
             shutil.copy(root / name, room / name)
+    return room
 
 
-def try_crates(waiting, root, logs, failed):
+def try_crates(room, waiting, logs, unproved):
     """Tries the edits of the crates that are waiting, one crate after the other, in a copy of the tree."""
-    with tempfile.TemporaryDirectory(prefix="refused-") as made:
-        room = Path(made)
-        copy_of(root, room)
-        while True:
-            try:
-                crate, texts = waiting.get_nowait()
-            except queue.Empty:
-                return
-            folder = room / "crates" / crate
-            verdicts = [line for line in check(folder).splitlines() if line.startswith("logic=")]
-            if not verdicts or not verdicts[-1].startswith("logic=proved"):
-                failed.append(f"{crate} is not proved as it stands, so its edits are not tried")
-                continue
-            for label, text in texts:
-                log = tried(folder, text)
-                if log is not None:
-                    (logs / crate).mkdir(parents=True, exist_ok=True)
-                    (logs / crate / f"{label}.log").write_text(log)
+    while True:
+        try:
+            crate, texts = waiting.get_nowait()
+        except queue.Empty:
+            return
+        folder = room / "crates" / crate
+        if not proved(folder):
+            unproved.append(crate)
+            continue
+        for label, text in texts:
+            log = tried(folder, text)
+            if log is not None:
+                (logs / crate).mkdir(parents=True, exist_ok=True)
+                (logs / crate / f"{label}.log").write_text(log)
 
 
 def try_all(root, logs):
-    """Tries every edit, and leaves the logs; what failed before an edit could be tried."""
+    """Tries every edit, and leaves the logs. The crates that are not proved as they stand, so that their edits were not tried."""
     shutil.rmtree(logs, ignore_errors=True)
-    waiting, failed = queue.Queue(), []
     texts = {}
     for crate, label, text in edits(root):
         texts.setdefault(crate, []).append((label, text))
-    for crate in sorted(texts, key=lambda c: -len(texts[c])):
+    waiting, unproved = queue.Queue(), []
+    for crate in texts:
         waiting.put((crate, texts[crate]))
-    workers = [threading.Thread(target=try_crates, args=(waiting, root, logs, failed)) for _ in range(COPIES)]
-    for worker in workers:
-        worker.start()
-    for worker in workers:
-        worker.join()
-    return failed
+    with tempfile.TemporaryDirectory(prefix="refused-") as made:
+        rooms = [copy_of(root, Path(made) / str(n)) for n in range(COPIES)]
+        # the first copy is proved alone, with all processors; the checks of the others begin with what that one kept
+        for crate in texts:
+            check(rooms[0] / "crates" / crate)
+        workers = [threading.Thread(target=try_crates, args=(room, waiting, logs, unproved)) for room in rooms]
+        for worker in workers:
+            worker.start()
+        for worker in workers:
+            worker.join()
+    return unproved
 
 
 def log_of(logs, crate, label):
@@ -215,8 +223,8 @@ def listed(root):
 def checked(root, logs):
     names = set()
     bad = try_all(root, logs)
-    for line in bad:
-        print(line)
+    for crate in bad:
+        print(f"{crate} is not proved as it stands, so its edits were not tried")
     for crate, label, text in edits(root):
         amiss = amiss_in(text, log_of(logs, crate, label))
         for m in mistakes_of(text)[0]:
