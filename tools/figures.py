@@ -1,5 +1,6 @@
 #!/usr/bin/env python3
-"""The table by crate of docs/FIGURES.md, from what a run of the gate printed, and from the tree and the logs that it left.
+"""The table by crate of docs/FIGURES.md, from what a run of the gate printed, and from the tree and the logs that it left. It reads what the older
+toolchain printed, of which those figures are.
 
 usage: .ci/run > OUTPUT, then tools/figures.py OUTPUT
 """

@@ -2,8 +2,8 @@
 """Tests of refused.py on stored logs of must-fail checks. Silent where all is well; else says which case comes out otherwise, and ends with status 1.
 
 The logs are without the lines that show terms.
-config: three functions are refused for themselves: `good_own` and `times::paired`, whose proofs are searched for, and `leader_of`, which has one;
-    `Config::good` and `Commit::good` only because of what they call.
+config: three functions are refused for themselves, `good_own`, `leader_of` and `times::paired`; `Config::good` and `Commit::good` only because of
+    what they call.
 survives: `good_own` is refused, so rt counts the edit as refused; the change in `times::between` makes an equal program, which is proved.
 ledger: five mistakes, one of them in a definition, so that claims are refused too.
 worked: a row of the table, so that a claim is refused and there is no function.

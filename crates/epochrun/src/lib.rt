@@ -34,7 +34,7 @@ pub fn begin(outbox: [u8; Config::FRAME]) -> Run
     }
 }
 
-// One byte of the input.
+// One byte of the input. An error is that of printing what the byte gives: there is then no run to go on with, and nothing else was lent.
 pub fn feed<R: Print>(rt: &R, run: Run, byte: u8) -> io::Result<Run>
     ensures { IfOk result (λ r. machine_of r ≡ (byte_turn (machine_of run) byte).machine_after) }
 {
@@ -54,7 +54,7 @@ pub fn feed<R: Print>(rt: &R, run: Run, byte: u8) -> io::Result<Run>
     })
 }
 
-// The end of the input.
+// The end of the input. An error is that of printing.
 pub fn end<R: Print>(rt: &R, run: Run) -> io::Result<()> {
     let mut outbox = run.outbox;
     let mut kept = run.kept;

@@ -1,4 +1,4 @@
--- What a reader may quote of the node: each claim is a type. The proof of `AClaim` is `a-claim`, in a file of `proofs/` named for its subject; `proofs/Instances.antt` and
+-- What a reader may quote of the node: each claim is a type. The proof of `AClaim` is `a_claim`, in a file of `proofs/` named for its subject; `proofs/Instances.antt` and
 -- `proofs/Rounded.antt` have runs that compute and meet the claims' hypotheses.
 use Rattle.std.specs.Prelude.{◌≡◌, Bool, true, false, cond, ◌&&◌, List, [], ◌∷◌, map, ℕ, ◌+◌, ◌-◌, ◌*◌, ◌≤◌, max, eqb, ℤ, length, get_or, take, drop}
 use Rattle.config.specs.Limits.{kept_size, signatures_size}

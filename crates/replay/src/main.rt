@@ -51,7 +51,8 @@ fn main(rt: HostRuntime) -> io::Result<()> {
     Ok(())
 }
 
-// One record; the run ends where the input does.
+// One record; the run ends where the input does. An error, here and in what this calls, is that of reading or printing: `bytes` may then
+// hold the record's changes in part, and `main` ends with it.
 fn take_turn<R: Input + Print>(
     rt: &R,
     bytes: &mut [u8; memory::SIZE],
