@@ -11,9 +11,9 @@ An edit holds one mistake or more, each in the body of another function:
 
 A function is checked against its own body and the contracts of what it calls, so a mistake in a body disturbs no other function,
 and the check's log tells which are refused for themselves: those with an error in their own proof that is not about another
-declaration, or whose proof the check searched for and did not find. Each function that an edit names has to be among them and,
-where an edit holds several mistakes, no other function may be. A claim that is no function's is named by the file of its proof:
-`Claims.worked`.
+declaration or a name that the edit took away, or with a goal that the check searched for and did not prove. Each function that an
+edit names has to be among them and, where an edit holds several mistakes, no other function may be. A claim that is no function's
+is named by the file of its proof: `Claims.worked`.
 
 rt keeps no log of an edit, so each crate is proved once more in a copy of the tree, beside which each of its edits is tried. The logs
 stand in the folder LOGS afterwards, as CRATE/EDIT.log.

@@ -7,6 +7,8 @@ config: three functions are refused for themselves, `good_own`, `leader_of` and 
 survives: `good_own` is refused, so rt counts the edit as refused; the change in `times::between` makes an equal program, which is proved.
 ledger: five mistakes, one of them in a definition, so that claims are refused too.
 worked: a row of the table, so that a claim is refused and there is no function.
+quorum: answers name branches, and two of the mistakes rename one. In `count_marks` nothing else is refused; in `first_clear` a goal is false besides.
+    `count_above` and `first_repeat` are refused in their answers, the others by the search.
 """
 
 import sys
@@ -27,6 +29,10 @@ LEADER = mistake("leader_from_zero", "leader_of")
 PAIRED = mistake("commit_half_empty", "times::paired", "src/times.rt")
 GOOD = mistake("bad_is_good", "Config::good")
 LEDGER = "".join(mistake(f"wrong_{f.lower().replace('::', '_')}", f) for f in ("Ledger::empty", "Ledger::deposit", "covers", "emptied"))
+
+QUORUM = "".join(
+    mistake(f"wrong_{f}", f) for f in ("count_above", "count_reaching", "reached", "flags", "first_clear", "first_repeat")
+)
 
 # what is tried, the log, the edit, and what has to be said of it
 CASES = [
@@ -73,6 +79,13 @@ CASES = [
         ["no line names the mistake in good_own"],
     ),
     ("a function named and nothing changed", "config", "# own_zero: A member.\n# in: good_own\n", ["own_zero changes nothing"]),
+    ("a name that the edit took away, and a false goal", "quorum", QUORUM, []),
+    (
+        "nothing but a name that the edit took away",
+        "quorum",
+        QUORUM + mistake("larger_numbers_are_marks", "count_marks"),
+        ["larger_numbers_are_marks: count_marks is not refused for itself"],
+    ),
     ("no log", None, OWN, ["there is no log of its check"]),
     ("a claim", "worked", mistake("edge_is_a_deviation", "Claims.worked", "specs/Table.antt"), []),
     (
