@@ -1,5 +1,6 @@
 -- The laws of frames that the proofs of this crate and of others cite, and the claims.
 pub mod Ranges
+pub mod Numbers
 pub mod Messages
 pub mod Entries
 pub mod Access

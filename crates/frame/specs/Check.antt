@@ -1,9 +1,7 @@
 -- Document 01, "Codes", 4 to 9: what is wrong with a frame, first match wins. A stage is a test, its refusal, and the stage after it.
-use Rattle.std.specs.Prelude.{Bool, not, cond, ◌||◌, List, ℕ, ◌+◌, ◌-◌, ltb, eqb, length}
+use Rattle.std.specs.Prelude.{Bool, not, cond, ◌||◌, Option, Some, None, List, ℕ, ◌+◌, ◌-◌, ltb, eqb, length}
 use Rattle.config.specs.declared.Answer.{Answer}
 use Rattle.config.specs.declared.Answer.TheVariants.{Done, Short, Version, Kind, Sender, Length, Range}
-use Rattle.frame.specs.declared.BodyStart.{BodyStart}
-use Rattle.frame.specs.declared.BodyStart.TheVariants as start
 use Rattle.frame.specs.Table.{good_kind, body_length, version_of, trailer_length}
 use Rattle.frame.specs.Decode.{count_in, signer_count_in, trailer_place, kind_in, sender_in, version_in, length_in, number_in, body_in, message_of}
 use Rattle.frame.specs.Range.{good_message}
@@ -48,6 +46,6 @@ too_short f = ltb (length f) trailer_length || ltb (length f) (length_in f + tra
 unfoldable pub frame_answer : List ℕ → ℕ → ℕ → ℕ → Answer
 frame_answer f n number link = cond (too_short f) Short (after_short f n number link)
 
--- where the body of the frame at the end of a list of bytes starts
-unfoldable pub body_start : List ℕ → BodyStart
-body_start f = cond (too_short f) start.Short (start.At (trailer_place f - length_in f))
+-- where the body of the frame at the end of a list of bytes starts, unless that is too short
+unfoldable pub body_start : List ℕ → Option ℕ
+body_start f = cond (too_short f) None (Some (trailer_place f - length_in f))

@@ -1,5 +1,6 @@
 pub mod Message
 pub mod Table
+pub mod Kinds
 pub mod Encode
 pub mod Decode
 pub mod Range

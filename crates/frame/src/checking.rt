@@ -1,33 +1,30 @@
 // Checks 4 to 9 of a frame, and those of a body alone.
 ghost use Rattle.std.specs.Prelude.{◌≡◌, not, cond, ◌&&◌, ◌+◌, ◌*◌, ◌≤◌, ◌<◌, length, get_or, drop};
 ghost use Rattle.frame.specs.Table.{body_length, trailer_length};
+ghost use Rattle.frame.specs.Kinds.{number_of};
 ghost use Rattle.frame.specs.Decode.{entries, epoch_in, round_in, count_in, list_place, observations_in, list_end, signer_count_in, signers_in, attested_in, Readable};
 ghost use Rattle.frame.specs.Range.{good_epoch, good_round, all_members, good_observations, good_signers, good_attested};
 ghost use Rattle.frame.specs.Check.{body_answer, other_sender, other_feed, frame_answer};
 
-use crate::{BodyStart, LIST, TRAILER, reading};
+use crate::{Kind, LIST, TRAILER, reading};
 use config::{Answer, Config};
 
 // Checks 4 to 9: what is wrong with a frame that came over the link of member `link`, in a feed of n members with this
 // configuration number. Done where nothing is.
-#[tactic(auto, using(crate::proofs::Checks::start_at, crate::proofs::Checks::short_frame, crate::proofs::Checks::another_feed, crate::proofs::Checks::low_kind, crate::proofs::Checks::high_kind, crate::proofs::Checks::another_sender, crate::proofs::Checks::bytes_before, crate::proofs::Checks::whole_frame))]
+#[tactic(auto, using(crate::proofs::Checks::start_at, crate::proofs::Checks::short_frame, crate::proofs::Checks::another_feed, crate::proofs::Checks::no_kind, crate::proofs::Checks::another_sender, crate::proofs::Checks::bytes_before, crate::proofs::Checks::whole_frame))]
 pub fn check(frame: &[u8], n: u8, number: u64, link: u8) -> Answer
     ensures { result ≡ frame_answer frame.now n number link }
 {
-    let BodyStart::At(start) = reading::body_start(frame) else {
+    let Some(start) = reading::body_start(frame) else {
         return Answer::Short;
     };
     let end = frame.len() - TRAILER;
     if other_feed(frame, n, number) {
         return Answer::Version;
     }
-    let kind = frame[end];
-    if kind < 1 {
+    let Ok(kind) = Kind::try_from(frame[end]) else {
         return Answer::Kind;
-    }
-    if 7 < kind {
-        return Answer::Kind;
-    }
+    };
     if other_sender(frame[end + 1], n, link) {
         return Answer::Sender;
     }
@@ -56,75 +53,47 @@ fn other_sender(sender: u8, n: u8, link: u8) -> bool
 }
 
 // LENGTH and RANGE of a body, by the reader of its kind.
-pub fn check_body(kind: u8, body: &[u8], n: u8) -> Answer
-    requires { (1 ≤ kind) × (kind ≤ 7) }
-    ensures { result ≡ body_answer n kind body.now }
+#[tactic(auto, unfolding(crate::specs::Check::body_answer, crate::specs::Table::body_length, crate::specs::Decode::message_of))]
+pub fn check_body(kind: Kind, body: &[u8], n: u8) -> Answer
+    ensures { result ≡ body_answer n (number_of kind) body.now }
 {
     match kind {
-        1 => check_newepoch(body, n),
-        2 => check_observe_req(body, n),
-        3 => check_observe(body, n),
-        4 => check_report_req(body, n),
-        5 => check_report(body, n),
-        6 => check_final(body, n),
-        _ => check_final_echo(body, n),
+        Kind::NewEpoch | Kind::ObserveReq | Kind::Observe => check_bare(kind, body, n),
+        Kind::ReportReq | Kind::Report => check_listed(kind, body, n),
+        Kind::Final | Kind::FinalEcho => check_final(body, n),
     }
 }
 
+// The kinds that list nothing.
 #[tactic(auto, using(crate::proofs::Checks::other_length, crate::proofs::Checks::own_length), unfolding(crate::specs::Table::body_length, crate::specs::Decode::message_of))]
-fn check_newepoch(body: &[u8], n: u8) -> Answer
-    ensures { result ≡ body_answer n 1 body.now }
+fn check_bare(kind: Kind, body: &[u8], n: u8) -> Answer
+    requires { number_of kind ≤ 3 }
+    ensures { result ≡ body_answer n (number_of kind) body.now }
 {
-    if body.len() != crate::body_length(1, 0, 0) {
+    let length = crate::body_length(kind, 0, 0);
+    if body.len() != length {
         return Answer::Length;
     }
-    ranged(good_epoch(reading::epoch_of(body)))
-}
-
-#[tactic(auto, using(crate::proofs::Checks::other_length, crate::proofs::Checks::own_length), unfolding(crate::specs::Table::body_length, crate::specs::Decode::message_of))]
-fn check_observe_req(body: &[u8], n: u8) -> Answer
-    ensures { result ≡ body_answer n 2 body.now }
-{
-    if body.len() != crate::body_length(2, 0, 0) {
-        return Answer::Length;
+    match kind {
+        Kind::NewEpoch => ranged(good_epoch(reading::epoch_of(body))),
+        _ => ranged(good_head(body)),
     }
-    ranged(good_head(body))
 }
 
-#[tactic(auto, using(crate::proofs::Checks::other_length, crate::proofs::Checks::own_length), unfolding(crate::specs::Table::body_length, crate::specs::Decode::message_of))]
-fn check_observe(body: &[u8], n: u8) -> Answer
-    ensures { result ≡ body_answer n 3 body.now }
-{
-    if body.len() != crate::body_length(3, 0, 0) {
-        return Answer::Length;
-    }
-    ranged(good_head(body))
-}
-
+// The kinds that list observations and no signers.
 #[tactic(auto, using(crate::proofs::Checked::good_said, crate::proofs::Checks::other_length, crate::proofs::Checks::own_length), unfolding(crate::specs::Table::body_length, crate::specs::Decode::message_of))]
-fn check_report_req(body: &[u8], n: u8) -> Answer
-    ensures { result ≡ body_answer n 4 body.now }
+fn check_listed(kind: Kind, body: &[u8], n: u8) -> Answer
+    requires { (4 ≤ number_of kind) × (number_of kind ≤ 5) }
+    ensures { result ≡ body_answer n (number_of kind) body.now }
 {
     if body.len() < LIST {
         return Answer::Length;
     }
-    if body.len() != crate::body_length(4, reading::count_of(body), 0) {
+    let length = crate::body_length(kind, reading::count_of(body), 0);
+    if body.len() != length {
         return Answer::Length;
     }
-    ranged(good_head(body) & good_list(body, crate::stride(4), n))
-}
-
-#[tactic(auto, using(crate::proofs::Checks::other_length, crate::proofs::Checks::own_length), unfolding(crate::specs::Table::body_length, crate::specs::Decode::message_of))]
-fn check_report(body: &[u8], n: u8) -> Answer
-    ensures { result ≡ body_answer n 5 body.now }
-{
-    if body.len() < LIST {
-        return Answer::Length;
-    }
-    if body.len() != crate::body_length(5, reading::count_of(body), 0) {
-        return Answer::Length;
-    }
-    ranged(good_head(body) & good_list(body, crate::stride(5), n))
+    ranged(good_head(body) & good_list(body, crate::stride(kind), n))
 }
 
 // Also the body alone, as sender and contract are given it.
@@ -142,13 +111,6 @@ pub fn check_final(body: &[u8], n: u8) -> Answer
         return Answer::Length;
     }
     ranged(good_attested(body, n))
-}
-
-#[tactic(auto, unfolding(crate::specs::Check::body_answer, crate::specs::Table::body_length, crate::specs::Decode::message_of))]
-fn check_final_echo(body: &[u8], n: u8) -> Answer
-    ensures { result ≡ body_answer n 7 body.now }
-{
-    check_final(body, n)
 }
 
 fn ranged(good: bool) -> Answer
@@ -169,7 +131,7 @@ pub fn good_attested(b: &[u8], n: u8) -> bool
     if (n as usize) < reading::signer_count(b) {
         return false;
     }
-    good_head(b) & good_list(b, crate::stride(6), n) & good_signers(b, n)
+    good_head(b) & good_list(b, crate::stride(Kind::Final), n) & good_signers(b, n)
 }
 
 fn good_epoch(epoch: u32) -> bool

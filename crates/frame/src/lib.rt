@@ -2,15 +2,19 @@
 #![tactic(auto)]
 
 mod checking;
+mod kind;
 mod reading;
 
 ghost use Rattle.std.specs.Prelude.{◌≡◌, ◌≤◌};
 ghost use Rattle.frame.specs.Table.{shape_of, body_length, version_of, destination_of};
+ghost use Rattle.frame.specs.Kinds.{number_of};
 
 pub use checking::{check, check_body, check_final, good_attested, members_in};
+pub use kind::{Kind, NoKind};
 pub use reading::{
-    body_of, body_start, count_of, epoch_of, final_length, kind_of, list_end, member_at,
-    observe_signature, report_signature, round_of, signer_at, signer_count, value_at, value_of,
+    body_of, body_start, count_of, epoch_of, final_length, kind_of, known_kind, list_end,
+    member_at, observe_signature, report_signature, round_of, signer_at, signer_count, value_at,
+    value_of,
 };
 
 // A row of the table of kinds.
@@ -33,13 +37,6 @@ pub enum Destination {
     Member(u8),
     // the number is no kind
     Nobody,
-}
-
-// Where the body of the frame at the end of a slice starts.
-#[derive(Clone, Copy)]
-pub enum BodyStart {
-    Short,
-    At(usize),
 }
 
 // NEWEPOCH, OBSERVE-REQ, OBSERVE, REPORT-REQ, REPORT, FINAL, FINAL-ECHO.
@@ -99,19 +96,17 @@ pub const LIST: usize = 6;
 
 // The row of a kind.
 #[tactic(auto, unfolding(crate::specs::Table::table, crate::specs::Table::shape_of))]
-pub fn shape_of(kind: u8) -> Shape
-    requires { (1 ≤ kind) × (kind ≤ 7) }
-    ensures { result ≡ shape_of kind }
+pub fn shape_of(kind: Kind) -> Shape
+    ensures { result ≡ shape_of (number_of kind) }
 {
-    let row = kind as usize - 1;
-    TABLE[row]
+    TABLE[kind as usize - 1]
 }
 
 // How long a body of a kind is that has m observations and s signers.
 #[tactic(auto, using(crate::proofs::Readable::length_most), unfolding(crate::specs::Table::body_length, crate::specs::Table::table))]
-pub fn body_length(kind: u8, m: usize, s: usize) -> usize
-    requires { (1 ≤ kind) × (kind ≤ 7) × (m ≤ 255) × (s ≤ 255) }
-    ensures { result ≡ body_length kind m s }
+pub fn body_length(kind: Kind, m: usize, s: usize) -> usize
+    requires { (m ≤ 255) × (s ≤ 255) }
+    ensures { result ≡ body_length (number_of kind) m s }
 {
     let row = shape_of(kind);
     row.base + row.entry * m + row.signer * s
@@ -129,32 +124,25 @@ pub fn version(n: u8) -> u16
 pub fn goes_to(kind: u8, leader: u8) -> Destination
     ensures { result ≡ destination_of kind leader }
 {
-    if kind < 1 {
+    let Ok(kind) = Kind::try_from(kind) else {
         return Destination::Nobody;
-    }
-    if 7 < kind {
-        return Destination::Nobody;
-    }
-    let row = shape_of(kind);
-    if row.leader {
+    };
+    if shape_of(kind).leader {
         return Destination::Member(leader);
     }
     Destination::All
 }
 
 // The bytes that each observation takes in a body of a kind.
-pub fn stride(kind: u8) -> usize
-    requires { (1 ≤ kind) × (kind ≤ 7) }
-    ensures { result ≡ (shape_of kind).entry }
+pub fn stride(kind: Kind) -> usize
+    ensures { result ≡ (shape_of (number_of kind)).entry }
 {
-    let row = shape_of(kind);
-    row.entry
+    shape_of(kind).entry
 }
 
 // The bytes that each signer takes.
 pub fn signer_stride() -> usize
     ensures { result ≡ (shape_of 6).signer }
 {
-    let row = shape_of(6);
-    row.signer
+    shape_of(Kind::Final).signer
 }

@@ -1,11 +1,12 @@
 // The readers of a frame's parts.
-ghost use Rattle.std.specs.Prelude.{◌≡◌, false, ◌≤◌, ◌<◌, length, get_or};
+ghost use Rattle.std.specs.Prelude.{◌≡◌, true, false, ◌≤◌, ◌<◌, length, get_or};
 ghost use Rattle.frame.specs.Message.{no_observation, no_signer};
-ghost use Rattle.frame.specs.Table.{body_length, trailer_length};
+ghost use Rattle.frame.specs.Table.{good_kind, body_length, trailer_length};
+ghost use Rattle.frame.specs.Kinds.{number_of};
 ghost use Rattle.frame.specs.Decode.{kind_in, body_in, epoch_in, round_in, value_in, observe_signature, count_in, list_place, observations_in, list_end, report_signature, signer_count_in, signers_in, ListIn, SignersIn};
 ghost use Rattle.frame.specs.Check.{too_short, body_start};
 
-use crate::{BodyStart, LIST, TRAILER};
+use crate::{Kind, LIST, TRAILER};
 use config::Config;
 
 // The kind that the frame at the end of a slice bears.
@@ -16,13 +17,21 @@ pub fn kind_of(frame: &[u8]) -> u8
     frame[frame.len() - TRAILER]
 }
 
+// The kind that it bears, where that is one of the seven.
+pub fn known_kind(frame: &[u8]) -> Kind
+    requires { (trailer_length ≤ length frame.now) × (good_kind (kind_in frame.now) ≡ true) }
+    ensures { number_of result ≡ kind_in frame.now }
+{
+    Kind::try_from(kind_of(frame)).unwrap()
+}
+
 // Its body.
 #[tactic(auto, using(crate::proofs::Checks::start_short, crate::proofs::Checks::start_at))]
 pub fn body_of(frame: &[u8]) -> &[u8]
     requires { too_short frame.now ≡ false }
     ensures { result.now ≡ body_in frame.now }
 {
-    let BodyStart::At(start) = body_start(frame) else {
+    let Some(start) = body_start(frame) else {
         return &frame[..0];
     };
     let end = frame.len() - TRAILER;
@@ -31,18 +40,18 @@ pub fn body_of(frame: &[u8]) -> &[u8]
 
 // Where the body starts of the frame that ends with the slice.
 #[tactic(auto, unfolding(crate::specs::Check::body_start))]
-pub fn body_start(frame: &[u8]) -> BodyStart
+pub fn body_start(frame: &[u8]) -> Option<usize>
     ensures { result ≡ body_start frame.now }
 {
     if frame.len() < TRAILER {
-        return BodyStart::Short;
+        return None;
     }
     let end = frame.len() - TRAILER;
     let length = wire::get_u32(frame, end + 4) as usize;
     if end < length {
-        return BodyStart::Short;
+        return None;
     }
-    BodyStart::At(end - length)
+    Some(end - length)
 }
 
 pub fn epoch_of(body: &[u8]) -> u32
@@ -110,7 +119,7 @@ pub fn list_end(body: &[u8]) -> usize
     requires { list_place ≤ length body.now }
     ensures { result ≡ list_end body.now }
 {
-    LIST + crate::stride(6) * count_of(body)
+    LIST + crate::stride(Kind::Final) * count_of(body)
 }
 
 // The signature of a REPORT.
@@ -148,5 +157,5 @@ pub fn final_length(body: &[u8]) -> usize
     requires { (list_place ≤ length body.now) × (list_end body.now < length body.now) }
     ensures { result ≡ body_length 6 (count_in body.now) (signer_count_in body.now) }
 {
-    crate::body_length(6, count_of(body), signer_count(body))
+    crate::body_length(Kind::Final, count_of(body), signer_count(body))
 }
