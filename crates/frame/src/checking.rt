@@ -178,20 +178,16 @@ fn good_signers(body: &[u8], n: u8) -> bool
 }
 
 // Whether each of `many` entries of `stride` bytes begins with a member's number.
-#[tactic(auto, using(crate::proofs::Access::members_in, crate::proofs::Access::members_first, crate::proofs::Access::times_first), unfolding(crate::specs::Range::all_members, crate::specs::Decode::entries))]
+#[tactic(auto, using(crate::proofs::Access::members_first), unfolding(crate::specs::Range::all_members, crate::specs::Decode::entries))]
 pub fn members_in(b: &[u8], at: usize, stride: usize, many: usize, n: u8) -> bool
     requires { (0 < stride) × (at + many * stride ≤ length b.now) }
     ensures { result ≡ all_members n (λ x. x) (entries (λ l. get_or l 0 0) stride many (drop at b.now)) }
 {
-    let mut place = at;
-    let mut left = many;
-    while 0 < left {
-        let x = b[place];
+    for i in 0..many {
+        let x = b[at + i * stride];
         if (x == 0) | (n < x) {
             return false;
         }
-        place += stride;
-        left -= 1;
     }
     true
 }
