@@ -6,8 +6,8 @@ use Prim.Native.Nat.{ℕ, ◌+◌, ◌-◌, ◌≤◌, ◌<◌}
 use native.Mathlib.Omega.{arith}
 use borrow.Author.Tests.{le-leb, lt-leb, eq-eqb, ne_eqb}
 use lib.ListN.{length, take, drop}
-use Rattle.config.specs.declared.Answer.{Answer}
-use Rattle.config.specs.declared.Answer.TheVariants.{Done, Short, Version, Kind, Sender, Length, Range}
+use Rattle.config.specs.Answers.{Answer}
+use Rattle.config.specs.Answers.{Done, Short, Version, Kind, Sender, Length, Range}
 use Rattle.frame.specs.declared.BodyStart.TheVariants as start
 use Rattle.frame.specs.Table.{body_length, trailer_length}
 use Rattle.frame.specs.Decode.{count_in, signer_count_in, trailer_place, kind_in, sender_in, length_in, message_of}

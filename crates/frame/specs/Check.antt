@@ -1,7 +1,7 @@
 -- Document 01, "Codes", 4 to 9: what is wrong with a frame, first match wins. A stage is a test, its refusal, and the stage after it.
 use Rattle.std.specs.Prelude.{Bool, not, cond, ◌||◌, List, ℕ, ◌+◌, ◌-◌, ltb, eqb, length}
-use Rattle.config.specs.declared.Answer.{Answer}
-use Rattle.config.specs.declared.Answer.TheVariants.{Done, Short, Version, Kind, Sender, Length, Range}
+use Rattle.config.specs.Answers.{Answer}
+use Rattle.config.specs.Answers.{Done, Short, Version, Kind, Sender, Length, Range}
 use Rattle.frame.specs.declared.BodyStart.{BodyStart}
 use Rattle.frame.specs.declared.BodyStart.TheVariants as start
 use Rattle.frame.specs.Table.{good_kind, body_length, version_of, trailer_length}

@@ -1,6 +1,6 @@
 -- Document 01, "Codes", 14 to 17: what can be wrong with a report, and the answer that each fault is given.
-use Rattle.config.specs.declared.Answer.{Answer}
-use Rattle.config.specs.declared.Answer.TheVariants as answer
+use Rattle.config.specs.Answers.{Answer}
+use Rattle.config.specs.Answers as answer
 use Rattle.report.specs.declared.Fault.{Fault}
 use Rattle.report.specs.declared.Fault.TheVariants.{Nothing, Few, Falling, Twice, TooFewSigners, SignerTwice, ClearBit}
 
