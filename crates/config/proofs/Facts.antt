@@ -14,8 +14,10 @@ use Rattle.config.specs.Leader.{leader_of}
 use Rattle.config.specs.Codes.{number_of, is_done}
 use Rattle.config.specs.declared.Config.{Config}
 use Rattle.config.specs.declared.Commit.{Commit}
-use Rattle.config.specs.declared.Answer.{Answer}
-use Rattle.config.specs.declared.Answer.TheVariants as the
+use Rattle.std.specs.Prelude.{Ok, Err}
+use Rattle.config.specs.Answers.{Answer}
+use Rattle.config.specs.Answers as the
+use Rattle.config.specs.declared.Refusal.TheVariants as refusal
 
 -- ---- tests
 
@@ -166,34 +168,59 @@ answers = the.Done ∷ the.Ignored ∷ the.State ∷ the.Room ∷ the.Short ∷ 
 
 answer_back : (a : Answer) → get_or answers (number_of a) the.Done ≡ a
 unfolding number_of answers
-answer_back the.Done = refl
-answer_back the.Ignored = refl
-answer_back the.State = refl
-answer_back the.Room = refl
-answer_back the.Short = refl
-answer_back the.Version = refl
-answer_back the.Kind = refl
-answer_back the.Sender = refl
-answer_back the.Length = refl
-answer_back the.Range = refl
-answer_back the.Proof = refl
-answer_back the.End = refl
-answer_back the.Config = refl
-answer_back the.Old = refl
-answer_back the.Few = refl
-answer_back the.Order = refl
-answer_back the.Twice = refl
-answer_back the.Signers = refl
-answer_back the.Funds = refl
-answer_back the.Similar = refl
-answer_back the.Queue = refl
+answer_back (Ok tt) = refl
+answer_back (Err refusal.Ignored) = refl
+answer_back (Err refusal.State) = refl
+answer_back (Err refusal.Room) = refl
+answer_back (Err refusal.Short) = refl
+answer_back (Err refusal.Version) = refl
+answer_back (Err refusal.Kind) = refl
+answer_back (Err refusal.Sender) = refl
+answer_back (Err refusal.Length) = refl
+answer_back (Err refusal.Range) = refl
+answer_back (Err refusal.Proof) = refl
+answer_back (Err refusal.End) = refl
+answer_back (Err refusal.Config) = refl
+answer_back (Err refusal.Old) = refl
+answer_back (Err refusal.Few) = refl
+answer_back (Err refusal.Order) = refl
+answer_back (Err refusal.Twice) = refl
+answer_back (Err refusal.Signers) = refl
+answer_back (Err refusal.Funds) = refl
+answer_back (Err refusal.Similar) = refl
+answer_back (Err refusal.Queue) = refl
 
 pub number_injective : (a b : Answer) → number_of a ≡ number_of b → a ≡ b
 number_injective a b e = sym (answer_back a) ∙ ap (λ (k : ℕ). get_or answers k the.Done) e ∙ answer_back b
 
 pub done_only : (a : Answer) → is_done a ≡ true → a ≡ the.Done
+done_only (Ok tt) h = refl
+done_only (Err r) h = absurd (false≢true h)
+
+-- DONE alone has the number 0
+pub done_zero : (a : Answer) → is_done a ≡ eqb (number_of a) 0
 unfolding number_of
-done_only a h = number_injective a the.Done (eqb-true _ _ h)
+done_zero (Ok tt) = refl
+done_zero (Err refusal.Ignored) = refl
+done_zero (Err refusal.State) = refl
+done_zero (Err refusal.Room) = refl
+done_zero (Err refusal.Short) = refl
+done_zero (Err refusal.Version) = refl
+done_zero (Err refusal.Kind) = refl
+done_zero (Err refusal.Sender) = refl
+done_zero (Err refusal.Length) = refl
+done_zero (Err refusal.Range) = refl
+done_zero (Err refusal.Proof) = refl
+done_zero (Err refusal.End) = refl
+done_zero (Err refusal.Config) = refl
+done_zero (Err refusal.Old) = refl
+done_zero (Err refusal.Few) = refl
+done_zero (Err refusal.Order) = refl
+done_zero (Err refusal.Twice) = refl
+done_zero (Err refusal.Signers) = refl
+done_zero (Err refusal.Funds) = refl
+done_zero (Err refusal.Similar) = refl
+done_zero (Err refusal.Queue) = refl
 
 -- past the end of `answers` there is only Done, whose number is 0
 pub number_below : (a : Answer) → number_of a < 21

@@ -3,8 +3,7 @@
 use mathlib.Core.Bool.{Bool, true, false, not, cond, false≢true}
 use mathlib.Core.Path.{◌≡◌, refl, sym, ap, ◌∙◌}
 use Rattle.config.specs.Codes.{is_done}
-use Rattle.config.specs.declared.Answer.{Answer}
-use Rattle.config.specs.declared.Answer.TheVariants.{Done}
+use Rattle.config.specs.Answers.{Answer, Done}
 use Rattle.config.proofs.Facts.{done_only}
 
 -- where an answer is handed on, and nothing beside it

@@ -1,4 +1,5 @@
 pub mod Limits
+pub mod Answers
 pub mod Codes
 pub mod Bounds
 pub mod Leader

@@ -11,6 +11,7 @@ ghost use Rattle.config.specs.Limits.{limits};
 ghost use Rattle.config.specs.Bounds.{config_of, good_members, good_own, good_rates, good_feed, good_config};
 ghost use Rattle.config.specs.Leader.{leader_of};
 
+pub use codes::{number, of_making};
 pub use times::{between, good_time, paired};
 
 // What the members of one feed have agreed on, and which of them this node is.
@@ -92,10 +93,9 @@ pub struct Saved {
     pub highest: u32,
 }
 
-// The codes of document 01, in its order; `Answer::number` gives the number of each.
-#[derive(Clone, Copy)]
-pub enum Answer {
-    Done,
+// Why a call was refused: the codes of document 01 above 0, in its order; `Refusal::number` gives the number of each.
+#[derive(Clone, Copy, PartialEq, Eq)]
+pub enum Refusal {
     Ignored,
     State,
     Room,
@@ -117,6 +117,9 @@ pub enum Answer {
     Similar,
     Queue,
 }
+
+// What a call answers: that its rule ran, or why it was refused; nothing but a rule that ran changes anything.
+pub type Answer = Result<(), Refusal>;
 
 // What a call has the host do with one of its timers; a running one is restarted by `Start`.
 #[derive(Clone, Copy)]

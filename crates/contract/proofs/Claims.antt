@@ -12,7 +12,7 @@ use lib.ListN.{length, length-map}
 use lib.Seq.{get_or-set_same, get_or-set_other}
 use Rattle.config.specs.Limits.{members, most_deposits}
 use Rattle.config.specs.Codes.{number_of, is_done}
-use Rattle.config.specs.declared.Answer.TheVariants as answer
+use Rattle.config.specs.Answers as answer
 use Rattle.config.specs.declared.Commit.{Commit}
 use Rattle.wire.specs.Numbers.{be_from, be_number, be_bytes}
 use Rattle.quorum.specs.First.{first_at}

@@ -10,8 +10,8 @@ use lib.ListN.{length}
 use Rattle.config.specs.Limits.{members, most_fee, most_deposits}
 use Rattle.config.specs.Bounds.{good_members, good_own, good_time, good_commit}
 use Rattle.config.specs.Codes.{number_of, is_done}
-use Rattle.config.specs.declared.Answer.{Answer}
-use Rattle.config.specs.declared.Answer.TheVariants as answer
+use Rattle.config.specs.Answers.{Answer}
+use Rattle.config.specs.Answers as answer
 use Rattle.config.proofs.Facts.{and-true, Members, members_facts, Own, own_facts}
 use Rattle.config.proofs.Passed.{itself, stage_passed, answer_passed}
 use Rattle.ledger.specs.Ledger.{owed, covered}

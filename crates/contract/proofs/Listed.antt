@@ -8,7 +8,7 @@ use lib.ListN.{length}
 use Rattle.config.specs.Limits.{most_deposits}
 use Rattle.config.specs.Bounds.{good_own, good_time}
 use Rattle.config.specs.Codes.{number_of, is_done}
-use Rattle.config.specs.declared.Answer.TheVariants as answer
+use Rattle.config.specs.Answers as answer
 use Rattle.frame.specs.Message.{Attested}
 use Rattle.frame.specs.Decode.{attested_in}
 use Rattle.frame.specs.Check.{body_answer}

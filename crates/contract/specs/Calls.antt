@@ -3,8 +3,8 @@ use Rattle.std.specs.Prelude.{not, cond, List, [], ◌∷◌, ℕ, ◌+◌, ◌*
 use Rattle.config.specs.Limits.{most_deposits}
 use Rattle.config.specs.Bounds.{good_own, good_time}
 use Rattle.config.specs.Codes.{is_done, making}
-use Rattle.config.specs.declared.Answer.{Answer}
-use Rattle.config.specs.declared.Answer.TheVariants as answer
+use Rattle.config.specs.Answers.{Answer}
+use Rattle.config.specs.Answers as answer
 use Rattle.price.specs.Median.{median_of}
 use Rattle.frame.specs.Message.{Attested}
 use Rattle.frame.specs.Decode.{attested_in}

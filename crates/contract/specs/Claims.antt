@@ -2,8 +2,8 @@
 use Rattle.std.specs.Prelude.{◌≡◌, Bool, true, false, cond, ◌⊎◌, List, [], ◌∷◌, ℕ, ◌+◌, ◌≤◌, eqb, length}
 use Rattle.config.specs.Limits.{members}
 use Rattle.config.specs.Codes.{number_of, is_done}
-use Rattle.config.specs.declared.Answer.{Answer}
-use Rattle.config.specs.declared.Answer.TheVariants as answer
+use Rattle.config.specs.Answers.{Answer}
+use Rattle.config.specs.Answers as answer
 use Rattle.quorum.specs.Counts.{count_if}
 use Rattle.quorum.specs.First.{among, members_to}
 use Rattle.price.specs.Median.{median_of}

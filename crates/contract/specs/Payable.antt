@@ -1,7 +1,7 @@
 -- What the checks of a submission leave to the payment: a whole report of members, and a fund that holds the fees.
 use Rattle.std.specs.Prelude.{◌≡◌, List, ℕ, ◌*◌, ◌≤◌}
 use Rattle.config.specs.Limits.{members}
-use Rattle.config.specs.declared.Answer.TheVariants.{Done}
+use Rattle.config.specs.Answers.{Done}
 use Rattle.frame.specs.Decode.{count_in}
 use Rattle.frame.specs.Check.{body_answer}
 use Rattle.ledger.specs.declared.Ledger.{Ledger}

@@ -2,7 +2,7 @@
 #![tactic(auto)]
 
 ghost use Rattle.std.specs.Prelude.{◌≡◌, true, ◌≤◌};
-ghost use Rattle.config.specs.declared.Answer.TheVariants.{Done};
+ghost use Rattle.config.specs.Answers.{Done};
 ghost use Rattle.frame.specs.Decode.{attested_in};
 ghost use Rattle.frame.specs.Check.{body_answer};
 ghost use Rattle.report.specs.Stands.{members_of};

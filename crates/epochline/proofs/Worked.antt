@@ -10,7 +10,7 @@ use Rattle.quorum.specs.Marks.{flags}
 use Rattle.config.specs.Limits.{frame_size, kept_size, signatures_size}
 use Rattle.config.specs.Bounds.{none_empty, sum, good_feed, good_config}
 use Rattle.config.specs.Codes.{number_of, is_done}
-use Rattle.config.specs.declared.Answer.TheVariants.{Done}
+use Rattle.config.specs.Answers.{Done}
 use Rattle.frame.specs.Check.{frame_answer, after_short, after_version, after_kind, after_sender, body_answer}
 use Rattle.frame.specs.Decode.{message_of}
 use Rattle.frame.specs.Encode.{body_bytes, trailer_bytes, frame_bytes}

@@ -4,7 +4,7 @@ use Rattle.config.specs.Limits.{frame_size, kept_size, signatures_size}
 use Rattle.config.specs.Bounds.{nothing_committed}
 use Rattle.config.specs.Codes.{number_of, is_done}
 use Rattle.config.specs.Leader.{leader_of}
-use Rattle.config.specs.declared.Answer.{Answer}
+use Rattle.config.specs.Answers.{Answer}
 use Rattle.config.specs.declared.Config.{Config}
 use Rattle.frame.specs.Message.{new_epoch}
 use Rattle.frame.specs.Encode.{frame_bytes}

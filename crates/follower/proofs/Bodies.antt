@@ -7,7 +7,7 @@ use native.Mathlib.Omega.{arith}
 use borrow.Author.Tests.{le-leb}
 use lib.ListN.{length, drop}
 use Rattle.config.specs.Limits.{members, kept_size}
-use Rattle.config.specs.declared.Answer.TheVariants.{Done}
+use Rattle.config.specs.Answers.{Done}
 use Rattle.frame.specs.Message.{report_req}
 use Rattle.frame.specs.Table.{shape_of}
 use Rattle.frame.specs.Decode.{epoch_in, round_in, count_in, list_place, signed_at, observations_in, signed_in}

@@ -1,8 +1,8 @@
 -- Document 01, "A round", Follower: which messages a follower takes, and what is wrong with one that it takes.
 use Rattle.std.specs.Prelude.{Bool, false, not, cond, ◌&&◌, map, ℕ, ◌-◌, eqb, ltb, length}
 use Rattle.config.specs.Codes.{is_done}
-use Rattle.config.specs.declared.Answer.{Answer}
-use Rattle.config.specs.declared.Answer.TheVariants as answer
+use Rattle.config.specs.Answers.{Answer}
+use Rattle.config.specs.Answers as answer
 use Rattle.quorum.specs.Marks.{marked}
 use Rattle.frame.specs.Message.{Signed, Message, new_epoch, observe_req, observe, report_req, report, final, final_echo}
 use Rattle.report.specs.declared.Fault.{Fault}

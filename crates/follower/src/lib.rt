@@ -7,7 +7,7 @@ mod taking;
 
 ghost use Rattle.std.specs.Prelude.{◌≡◌, cond, ◌≤◌, length};
 ghost use Rattle.config.specs.Limits.{members, kept_size};
-ghost use Rattle.config.specs.declared.Answer.TheVariants.{Done};
+ghost use Rattle.config.specs.Answers.{Done};
 ghost use Rattle.frame.specs.Decode.{message_of};
 ghost use Rattle.frame.specs.Check.{body_answer};
 ghost use Rattle.report.specs.Kept.{keeping};

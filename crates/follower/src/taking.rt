@@ -1,7 +1,7 @@
 // Which messages a follower takes, and what is wrong with one that it takes.
 ghost use Rattle.std.specs.Prelude.{◌≡◌, ℕ, ◌≤◌, length};
 ghost use Rattle.config.specs.Limits.{members};
-ghost use Rattle.config.specs.declared.Answer.TheVariants.{Done};
+ghost use Rattle.config.specs.Answers.{Done};
 ghost use Rattle.frame.specs.Message.{observe_req, report_req, final, final_echo};
 ghost use Rattle.frame.specs.Decode.{epoch_in, round_in, signed_in, attested_in, message_of};
 ghost use Rattle.frame.specs.Check.{body_answer};

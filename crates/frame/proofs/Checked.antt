@@ -8,7 +8,7 @@ use native.Mathlib.Omega.{arith}
 use borrow.Author.Tests.{eqb-true, le-leb}
 use lib.ListN.{length, get_or, drop}
 use Rattle.config.specs.Limits.{members, kept_size, signature_size, last_epoch}
-use Rattle.config.specs.declared.Answer.TheVariants.{Done}
+use Rattle.config.specs.Answers.{Done}
 use Rattle.config.proofs.Facts.{and-true}
 use Rattle.frame.specs.Message.{Observation, Signed, no_observation, no_signer}
 use Rattle.frame.specs.Table.{shape_of, body_length}

@@ -7,8 +7,7 @@ use native.Mathlib.Omega.{arith}
 use borrow.Author.Tests.{eq-eqb, ne_eqb}
 use lib.ListN.{length, take, drop}
 use Rattle.std.specs.Prelude.{Some, None}
-use Rattle.config.specs.declared.Answer.{Answer}
-use Rattle.config.specs.declared.Answer.TheVariants.{Done, Short, Version, Kind, Sender, Length, Range}
+use Rattle.config.specs.Answers.{Answer, Done, Short, Version, Kind, Sender, Length, Range}
 use Rattle.frame.specs.Table.{good_kind, body_length, trailer_length}
 use Rattle.frame.specs.Decode.{count_in, signer_count_in, trailer_place, kind_in, sender_in, length_in, message_of}
 use Rattle.frame.specs.Range.{good_message}

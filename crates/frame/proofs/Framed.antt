@@ -10,7 +10,7 @@ use borrow.Author.Tests.{le-ltb, eq-eqb, ne_eqb, eqb-true, eqb-false, ltb-false,
 use lib.Dec.{eqb, ltb}
 use lib.ListN.{length, get_or, take, drop, length-append, length-drop, take-append-drop}
 use lib.Seq.{drop-cons, drop-drop, get_or-drop, length-take-le, drop-append-add, get_or-append-add, take-append_seam}
-use Rattle.config.specs.declared.Answer.TheVariants.{Done, Short, Version, Kind, Sender, Length, Range}
+use Rattle.config.specs.Answers.{Done, Short, Version, Kind, Sender, Length, Range}
 use Rattle.config.specs.Codes.{number_of, is_done}
 use Rattle.config.proofs.Facts.{done_only}
 use Rattle.config.proofs.Passed.{itself, stage_passed}

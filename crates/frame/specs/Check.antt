@@ -1,7 +1,6 @@
 -- Document 01, "Codes", 4 to 9: what is wrong with a frame, first match wins. A stage is a test, its refusal, and the stage after it.
 use Rattle.std.specs.Prelude.{Bool, not, cond, ◌||◌, Option, Some, None, List, ℕ, ◌+◌, ◌-◌, ltb, eqb, length}
-use Rattle.config.specs.declared.Answer.{Answer}
-use Rattle.config.specs.declared.Answer.TheVariants.{Done, Short, Version, Kind, Sender, Length, Range}
+use Rattle.config.specs.Answers.{Answer, Done, Short, Version, Kind, Sender, Length, Range}
 use Rattle.frame.specs.Table.{good_kind, body_length, version_of, trailer_length}
 use Rattle.frame.specs.Decode.{count_in, signer_count_in, trailer_place, kind_in, sender_in, version_in, length_in, number_in, body_in, message_of}
 use Rattle.frame.specs.Range.{good_message}

@@ -1,5 +1,6 @@
 // Checks 4 to 9 of a frame, and those of a body alone.
 ghost use Rattle.std.specs.Prelude.{◌≡◌, not, cond, ◌&&◌, ◌+◌, ◌*◌, ◌≤◌, ◌<◌, length, get_or, drop};
+ghost use Rattle.config.specs.Answers.{Done, Range};
 ghost use Rattle.frame.specs.Table.{body_length, trailer_length};
 ghost use Rattle.frame.specs.Kinds.{number_of};
 ghost use Rattle.frame.specs.Decode.{entries, epoch_in, round_in, count_in, list_place, observations_in, list_end, signer_count_in, signers_in, attested_in, Readable};
@@ -7,7 +8,7 @@ ghost use Rattle.frame.specs.Range.{good_epoch, good_round, all_members, good_ob
 ghost use Rattle.frame.specs.Check.{body_answer, other_sender, other_feed, frame_answer};
 
 use crate::{Kind, LIST, TRAILER, reading};
-use config::{Answer, Config};
+use config::{Answer, Config, Refusal};
 
 // Checks 4 to 9: what is wrong with a frame that came over the link of member `link`, in a feed of n members with this
 // configuration number. Done where nothing is.
@@ -15,21 +16,17 @@ use config::{Answer, Config};
 pub fn check(frame: &[u8], n: u8, number: u64, link: u8) -> Answer
     ensures { result ≡ frame_answer frame.now n number link }
 {
-    let Some(start) = reading::body_start(frame) else {
-        return Answer::Short;
-    };
+    let start = reading::body_start(frame).ok_or(Refusal::Short)?;
     let end = frame.len() - TRAILER;
     if other_feed(frame, n, number) {
-        return Answer::Version;
+        return Err(Refusal::Version);
     }
-    let Ok(kind) = Kind::try_from(frame[end]) else {
-        return Answer::Kind;
-    };
+    let kind = Kind::try_from(frame[end])?;
     if other_sender(frame[end + 1], n, link) {
-        return Answer::Sender;
+        return Err(Refusal::Sender);
     }
     if start != 0 {
-        return Answer::Length;
+        return Err(Refusal::Length);
     }
     check_body(kind, &frame[start..end], n)
 }
@@ -72,7 +69,7 @@ fn check_bare(kind: Kind, body: &[u8], n: u8) -> Answer
 {
     let length = crate::body_length(kind, 0, 0);
     if body.len() != length {
-        return Answer::Length;
+        return Err(Refusal::Length);
     }
     match kind {
         Kind::NewEpoch => ranged(good_epoch(reading::epoch_of(body))),
@@ -87,11 +84,11 @@ fn check_listed(kind: Kind, body: &[u8], n: u8) -> Answer
     ensures { result ≡ body_answer n (number_of kind) body.now }
 {
     if body.len() < LIST {
-        return Answer::Length;
+        return Err(Refusal::Length);
     }
     let length = crate::body_length(kind, reading::count_of(body), 0);
     if body.len() != length {
-        return Answer::Length;
+        return Err(Refusal::Length);
     }
     ranged(good_head(body) & good_list(body, crate::stride(kind), n))
 }
@@ -102,21 +99,21 @@ pub fn check_final(body: &[u8], n: u8) -> Answer
     ensures { result ≡ body_answer n 6 body.now }
 {
     if body.len() < LIST {
-        return Answer::Length;
+        return Err(Refusal::Length);
     }
     if body.len() <= reading::list_end(body) {
-        return Answer::Length;
+        return Err(Refusal::Length);
     }
     if body.len() != reading::final_length(body) {
-        return Answer::Length;
+        return Err(Refusal::Length);
     }
     ranged(good_attested(body, n))
 }
 
 fn ranged(good: bool) -> Answer
-    ensures { result ≡ cond (not good) Answer.Range Answer.Done }
+    ensures { result ≡ cond (not good) Range Done }
 {
-    if good { Answer::Done } else { Answer::Range }
+    if good { Ok(()) } else { Err(Refusal::Range) }
 }
 
 // Whether the FINAL body at the start of a slice is in range. Beyond m and s no more is read than a body in range has.

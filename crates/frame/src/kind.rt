@@ -1,7 +1,10 @@
 // The kinds of frames.
 ghost use Rattle.std.specs.Prelude.{◌≡◌, true, false, MatchResult};
+ghost use Rattle.config.specs.declared.Refusal.TheVariants as refusal;
 ghost use Rattle.frame.specs.Table.{good_kind};
 ghost use Rattle.frame.specs.Kinds.{number_of};
+
+use config::Refusal;
 
 // The seven kinds, by their numbers, in the order of document 01's table.
 #[derive(Clone, Copy, PartialEq, Eq)]
@@ -44,5 +47,13 @@ impl TryFrom<u8> for Kind {
             7 => Ok(Kind::FinalEcho),
             _ => Err(NoKind),
         }
+    }
+}
+
+impl From<NoKind> for Refusal {
+    ghost from_gives = { λ _ why. why ≡ refusal.Kind };
+
+    fn from(_none: NoKind) -> Refusal {
+        Refusal::Kind
     }
 }

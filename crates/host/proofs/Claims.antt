@@ -16,7 +16,7 @@ use Rattle.config.specs.Bounds.{config_of, none_empty, sum, good_feed, good_conf
 use Rattle.config.specs.Codes.{number_of}
 use Rattle.config.specs.declared.Config.{Config}
 use Rattle.config.specs.declared.Commit.{Commit}
-use Rattle.config.specs.declared.Answer.TheVariants as answer
+use Rattle.config.specs.Answers as answer
 use Rattle.contract.specs.declared.Terms.{Terms}
 use Rattle.contract.specs.State.{good_terms, fresh_contract}
 use Rattle.contract.specs.Calls.{deposited_of}

@@ -1,6 +1,6 @@
 -- What a host finds in the struct that it lent, after each kind of call: the new state, and the outcome in numbers.
 use Rattle.std.specs.Prelude.{cond, List, ℕ}
-use Rattle.config.specs.declared.Answer.{Answer}
+use Rattle.config.specs.Answers.{Answer}
 use Rattle.config.specs.Codes.{number_of, is_done}
 use Rattle.node.specs.declared.Node.{Node}
 use Rattle.node.specs.declared.Outcome.{Outcome}

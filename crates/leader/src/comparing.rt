@@ -1,7 +1,7 @@
 // Whether a REPORT says the list that the leader made.
 ghost use Rattle.std.specs.Prelude.{◌≡◌, ◌≤◌, get_or};
 ghost use Rattle.config.specs.Limits.{members};
-ghost use Rattle.config.specs.declared.Answer.TheVariants.{Done};
+ghost use Rattle.config.specs.Answers.{Done};
 ghost use Rattle.frame.specs.Message.{no_observation};
 ghost use Rattle.frame.specs.Decode.{observations_in, ListIn};
 ghost use Rattle.frame.specs.Table.{shape_of};

@@ -6,8 +6,8 @@ use Prim.Native.Nat.{ℕ}
 use borrow.Author.Tests.{not-false}
 use Rattle.config.specs.Bounds.{good_config, good_time, good_commit}
 use Rattle.config.specs.Codes.{number_of, is_done}
-use Rattle.config.specs.declared.Answer.{Answer}
-use Rattle.config.specs.declared.Answer.TheVariants as answer
+use Rattle.config.specs.Answers.{Answer}
+use Rattle.config.specs.Answers as answer
 use Rattle.config.specs.declared.Commit.{Commit}
 use Rattle.config.proofs.Facts.{and-true}
 use Rattle.config.proofs.Passed.{itself, stage_passed, answer_passed}

@@ -7,7 +7,7 @@ use native.Mathlib.Nat.{le_refl, le_trans}
 use native.Mathlib.Omega.{arith}
 use lib.ListN.{length, length-append}
 use Rattle.config.specs.Limits.{members, outbox_size}
-use Rattle.config.specs.declared.Answer.TheVariants.{Done}
+use Rattle.config.specs.Answers.{Done}
 use Rattle.config.specs.declared.Config.{Config}
 use Rattle.wire.specs.Numbers.{be_bytes}
 use Rattle.wire.specs.Overlay.{over}

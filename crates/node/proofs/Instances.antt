@@ -11,7 +11,7 @@ use lib.ListN.{length, replicate, length-replicate, drop_of_length-le}
 use Rattle.config.specs.Limits.{members, kept_size, signatures_size, outbox_size}
 use Rattle.config.specs.Bounds.{config_of, good_feed, good_config, none_empty, sum}
 use Rattle.config.specs.Codes.{number_of, is_done}
-use Rattle.config.specs.declared.Answer.TheVariants as answer
+use Rattle.config.specs.Answers as answer
 use Rattle.config.specs.declared.Commit.{Commit}
 use Rattle.config.specs.declared.Config.{Config}
 use Rattle.config.specs.declared.Saved.{Saved}

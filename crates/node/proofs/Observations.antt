@@ -10,7 +10,7 @@ use lib.Dec.{eqb}
 use lib.IntN.{ℤ}
 use lib.ListN.{length, get_or, length-set}
 use Rattle.config.specs.Limits.{members, signature_size}
-use Rattle.config.specs.declared.Answer.TheVariants as answer
+use Rattle.config.specs.Answers as answer
 use Rattle.config.specs.declared.Config.{Config}
 use Rattle.config.proofs.Facts.{and-true, good_facts}
 use Rattle.quorum.specs.First.{first_at, distinct}

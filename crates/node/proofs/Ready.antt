@@ -9,8 +9,8 @@ use lib.ListN.{length}
 use Rattle.config.specs.Limits.{members, outbox_size, kept_size, signatures_size}
 use Rattle.config.specs.Bounds.{good_config}
 use Rattle.config.specs.Codes.{is_done}
-use Rattle.config.specs.declared.Answer.{Answer}
-use Rattle.config.specs.declared.Answer.TheVariants.{Done}
+use Rattle.config.specs.Answers.{Answer}
+use Rattle.config.specs.Answers.{Done}
 use Rattle.config.specs.declared.Commit.{Commit}
 use Rattle.config.specs.declared.Config.{Config}
 use Rattle.config.proofs.Facts.{good_facts, and-true}

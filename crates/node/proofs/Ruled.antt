@@ -7,7 +7,7 @@ use borrow.Author.Tests.{not-false}
 use lib.Dec.{eqb}
 use lib.IntN.{ℤ}
 use Rattle.config.specs.Codes.{number_of, is_done}
-use Rattle.config.specs.declared.Answer.TheVariants as answer
+use Rattle.config.specs.Answers as answer
 use Rattle.config.proofs.Facts.{and-true}
 use Rattle.config.proofs.Passed.{itself, stage_passed}
 use Rattle.wire.specs.Numbers.{Bytes}

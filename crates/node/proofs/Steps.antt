@@ -8,8 +8,8 @@ use borrow.Author.Tests.{not-false}
 use lib.Dec.{leb}
 use Rattle.config.specs.Bounds.{good_config}
 use Rattle.config.specs.Codes.{number_of, is_done}
-use Rattle.config.specs.declared.Answer.{Answer}
-use Rattle.config.specs.declared.Answer.TheVariants as answer
+use Rattle.config.specs.Answers.{Answer}
+use Rattle.config.specs.Answers as answer
 use Rattle.config.specs.declared.Config.{Config}
 use Rattle.config.specs.declared.Saved.{Saved}
 use Rattle.config.proofs.Facts.{and-true}

@@ -7,8 +7,8 @@ use Prim.Native.Nat.{ℕ, ◌<◌}
 use native.Mathlib.Omega.{arith}
 use borrow.Author.Tests.{ltb-true, ltb-false}
 use Rattle.config.specs.Bounds.{good_config}
-use Rattle.config.specs.declared.Answer.{Answer}
-use Rattle.config.specs.declared.Answer.TheVariants as answer
+use Rattle.config.specs.Answers.{Answer}
+use Rattle.config.specs.Answers as answer
 use Rattle.frame.specs.Message.{Message}
 use Rattle.frame.specs.Decode.{message_in}
 use Rattle.frame.specs.Check.{frame_answer}

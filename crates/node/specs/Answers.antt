@@ -2,8 +2,8 @@
 use Rattle.std.specs.Prelude.{Bool, false, not, cond, ◌&&◌, List, ℕ}
 use Rattle.config.specs.Bounds.{good_time, good_commit}
 use Rattle.config.specs.Codes.{is_done}
-use Rattle.config.specs.declared.Answer.{Answer}
-use Rattle.config.specs.declared.Answer.TheVariants.{Done, Ignored, State, Room, Range, Proof, End}
+use Rattle.config.specs.Answers.{Answer}
+use Rattle.config.specs.Answers.{Done, Ignored, State, Room, Range, Proof, End}
 use Rattle.config.specs.declared.Commit.{Commit}
 use Rattle.frame.specs.Message.{Message, new_epoch, observe_req, observe, report_req, report, final, final_echo}
 use Rattle.frame.specs.Decode.{message_in}

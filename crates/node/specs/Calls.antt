@@ -2,8 +2,8 @@
 use Rattle.std.specs.Prelude.{Bool, true, not, cond, List, [], ◌∷◌, ◌++◌, ℕ, leb, length}
 use Rattle.config.specs.Bounds.{good_config}
 use Rattle.config.specs.Codes.{is_done}
-use Rattle.config.specs.declared.Answer.{Answer}
-use Rattle.config.specs.declared.Answer.TheVariants as answer
+use Rattle.config.specs.Answers.{Answer}
+use Rattle.config.specs.Answers as answer
 use Rattle.config.specs.declared.Config.{Config}
 use Rattle.config.specs.declared.Saved.{Saved}
 use Rattle.config.specs.declared.Timer.TheVariants.{Leave}

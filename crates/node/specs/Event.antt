@@ -1,6 +1,6 @@
 -- What happens to a node, and what comes of it.
 use Rattle.std.specs.Prelude.{List, ℕ, ℤ}
-use Rattle.config.specs.declared.Answer.{Answer}
+use Rattle.config.specs.Answers.{Answer}
 use Rattle.config.specs.declared.Commit.{Commit}
 use Rattle.frame.specs.Message.{Message}
 use Rattle.follower.specs.declared.Handed.{Handed}

@@ -2,7 +2,7 @@
 use Rattle.std.specs.Prelude.{◌≡◌, true, false, ◌⊎◌, List, ℕ, ◌+◌, ◌≤◌, length}
 use Rattle.config.specs.Limits.{outbox_size, kept_size, signatures_size}
 use Rattle.config.specs.Bounds.{good_config}
-use Rattle.config.specs.declared.Answer.TheVariants.{Done}
+use Rattle.config.specs.Answers.{Done}
 use Rattle.config.specs.declared.Config.{Config}
 use Rattle.wire.specs.Overlay.{over}
 use Rattle.frame.specs.Message.{Message}

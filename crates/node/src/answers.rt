@@ -1,7 +1,7 @@
 // What a call answers before any rule runs, in document 01's order of codes.
 ghost use Rattle.std.specs.Prelude.{◌≡◌, true, ◌<◌};
 ghost use Rattle.config.specs.Bounds.{good_config};
-ghost use Rattle.config.specs.declared.Answer.TheVariants.{Done};
+ghost use Rattle.config.specs.Answers.{Done};
 ghost use Rattle.frame.specs.Decode.{message_of};
 ghost use Rattle.frame.specs.Check.{frame_answer};
 ghost use Rattle.node.specs.State.{leads, good_node, good_state, roomy};

@@ -1,7 +1,7 @@
 // The frames that a rule sends, written into the outbox.
 ghost use Rattle.std.specs.Prelude.{◌≡◌, ◌≤◌, length};
 ghost use Rattle.config.specs.Limits.{members, signatures_size};
-ghost use Rattle.config.specs.declared.Answer.TheVariants.{Done};
+ghost use Rattle.config.specs.Answers.{Done};
 ghost use Rattle.frame.specs.Decode.{message_of};
 ghost use Rattle.frame.specs.Check.{body_answer};
 ghost use Rattle.outbox.specs.Written.{Fits};

@@ -9,7 +9,7 @@ use borrow.Author.Tests.{eq-eqb}
 use lib.ListN.{length, get_or, take, drop, length-append}
 use lib.Seq.{length-take-le, take-length, take-take, take_at}
 use Rattle.config.specs.Limits.{members, kept_size}
-use Rattle.config.specs.declared.Answer.TheVariants.{Done, Length, Range}
+use Rattle.config.specs.Answers.{Done, Length, Range}
 use Rattle.wire.specs.Numbers.{part, be_number}
 use Rattle.frame.specs.Message.{Attested}
 use Rattle.frame.specs.Table.{shape_of, body_length}

@@ -24,7 +24,7 @@ use Rattle.frame.specs.Range.{all_members}
 use Rattle.frame.specs.Claims.{WritableAttested}
 use Rattle.frame.proofs.Fronts.{stands_says}
 use Rattle.frame.proofs.Claims.{blank_writable}
-use Rattle.report.specs.declared.Fault.TheVariants.{Nothing, Few, Falling, Twice, TooFewSigners, SignerTwice, ClearBit}
+use Rattle.report.specs.Faults.{Nothing, Few, Falling, Twice, TooFewSigners, SignerTwice, ClearBit}
 use Rattle.report.specs.Stands.{members_of, values_of, not_falling, list_fault, bits_fault, repeat_fault, signers_fault, attested_fault}
 use Rattle.report.specs.Kept.{keeping}
 use Rattle.report.specs.Claims.{DoneIsNothing, by_value, MedianBetween, MedianIsBetween, BetweenGood, MedianIsBetweenGood, KeptSaysTheReport}

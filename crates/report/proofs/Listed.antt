@@ -4,8 +4,8 @@ use mathlib.Core.Bool.{Bool, true, false, not, cond}
 use mathlib.Core.List.{List}
 use Prim.Native.Nat.{ℕ}
 use Rattle.config.specs.Codes.{number_of}
-use Rattle.config.specs.declared.Answer.{Answer}
-use Rattle.config.specs.declared.Answer.TheVariants.{Done, Length, Range}
+use Rattle.config.specs.Answers.{Answer}
+use Rattle.config.specs.Answers.{Done, Length, Range}
 use Rattle.quorum.specs.First.{among}
 use Rattle.frame.specs.Decode.{message_of}
 use Rattle.frame.specs.Range.{good_message}

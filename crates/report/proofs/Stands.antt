@@ -11,7 +11,7 @@ use Rattle.config.proofs.Facts.{and-true}
 use Rattle.quorum.specs.Sort.{Head, Sorted}
 use Rattle.quorum.specs.First.{bit, among, all_set, distinct}
 use Rattle.frame.specs.Message.{Observation, Signer, Attested}
-use Rattle.report.specs.declared.Fault.TheVariants.{Nothing, Few, Falling, Twice, TooFewSigners, SignerTwice, ClearBit}
+use Rattle.report.specs.Faults.{Nothing, Few, Falling, Twice, TooFewSigners, SignerTwice, ClearBit}
 use Rattle.report.specs.Faults.{first_fault}
 use Rattle.report.specs.Stands.{members_of, values_of, not_below, not_falling, list_fault, signer_members, bits_fault, repeat_fault, signers_fault, attested_fault}
 use Rattle.report.specs.Claims.{by_value}

@@ -12,15 +12,13 @@ use Rattle.frame.specs.Encode.{attested_bytes}
 use Rattle.frame.specs.Decode.{attested_in}
 use Rattle.frame.specs.Range.{all_members, good_attested}
 use Rattle.frame.specs.Claims.{WritableAttested}
-use Rattle.report.specs.declared.Fault.{Fault}
-use Rattle.report.specs.declared.Fault.TheVariants.{Nothing}
-use Rattle.report.specs.Faults.{code_of}
+use Rattle.report.specs.Faults.{Standing, Nothing, code_of}
 use Rattle.report.specs.Stands.{members_of, values_of, list_fault}
 use Rattle.report.specs.Kept.{keeping}
 
 -- A report is answered with Done only where nothing is wrong with it.
 abbrev pub DoneIsNothing : Type 0
-DoneIsNothing = (x : Fault) → is_done (code_of x) ≡ true → x ≡ Nothing
+DoneIsNothing = (x : Standing) → is_done (code_of x) ≡ true → x ≡ Nothing
 
 -- the order by value alone
 abbrev pub by_value : Observation → Observation → Bool

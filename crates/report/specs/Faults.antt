@@ -1,25 +1,46 @@
 -- Document 01, "Codes", 14 to 17: what can be wrong with a report, and the answer that each fault is given.
-use Rattle.config.specs.declared.Answer.{Answer}
-use Rattle.config.specs.declared.Answer.TheVariants as answer
+use Rattle.std.specs.Prelude.{Result, Ok, Err, ℕ}
+use Rattle.config.specs.Answers.{Answer}
+use Rattle.config.specs.Answers as answer
 use Rattle.report.specs.declared.Fault.{Fault}
-use Rattle.report.specs.declared.Fault.TheVariants.{Nothing, Few, Falling, Twice, TooFewSigners, SignerTwice, ClearBit}
+use Rattle.report.specs.declared.Fault.TheVariants as fault
+
+-- whether a report stands, and else what is wrong with it
+abbrev pub Standing : Type 0
+Standing = Result (Unit {0}) Fault
+
+abbrev pub Nothing : Standing
+Nothing = Ok tt
+
+abbrev pub Few : Standing
+Few = Err fault.Few
+
+abbrev pub Falling : Standing
+Falling = Err fault.Falling
+
+abbrev pub Twice : Standing
+Twice = Err fault.Twice
+
+abbrev pub TooFewSigners : Standing
+TooFewSigners = Err fault.TooFewSigners
+
+abbrev pub SignerTwice : ℕ → Standing
+SignerTwice i = Err (fault.SignerTwice i)
+
+abbrev pub ClearBit : ℕ → Standing
+ClearBit i = Err (fault.ClearBit i)
 
 -- "SIGNERS: s at most f, a signer twice, or a clear bit" is one code for three faults
-abbrev pub code_of : Fault → Answer
-code_of Nothing = answer.Done
-code_of Few = answer.Few
-code_of Falling = answer.Order
-code_of Twice = answer.Twice
-code_of TooFewSigners = answer.Signers
-code_of (SignerTwice i) = answer.Signers
-code_of (ClearBit i) = answer.Signers
+abbrev pub code_of : Standing → Answer
+code_of (Ok stands) = answer.Done
+code_of (Err fault.Few) = answer.Few
+code_of (Err fault.Falling) = answer.Order
+code_of (Err fault.Twice) = answer.Twice
+code_of (Err fault.TooFewSigners) = answer.Signers
+code_of (Err (fault.SignerTwice i)) = answer.Signers
+code_of (Err (fault.ClearBit i)) = answer.Signers
 
 -- the first of two faults; "First match wins."
-abbrev pub first_fault : Fault → Fault → Fault
-first_fault Nothing later = later
-first_fault Few later = Few
-first_fault Falling later = Falling
-first_fault Twice later = Twice
-first_fault TooFewSigners later = TooFewSigners
-first_fault (SignerTwice i) later = SignerTwice i
-first_fault (ClearBit i) later = ClearBit i
+abbrev pub first_fault : Standing → Standing → Standing
+first_fault (Ok stands) later = later
+first_fault (Err wrong) later = Err wrong

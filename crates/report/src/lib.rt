@@ -1,24 +1,23 @@
 // What an attested report says, whether it stands, and how it is kept: one account for follower, sender and contract.
 #![tactic(auto)]
 
-ghost use Rattle.std.specs.Prelude.{◌≡◌, ◌≤◌, ◌<◌, length};
+ghost use Rattle.std.specs.Prelude.{◌≡◌, ◌≤◌, ◌<◌, length, Err};
 ghost use Rattle.std.specs.Int.Signed.{lt_z};
 ghost use Rattle.config.specs.Limits.{members, kept_size};
 ghost use Rattle.price.specs.Median.{median_of};
 ghost use Rattle.frame.specs.Decode.{count_in, observations_in, signers_in, attested_in};
 ghost use Rattle.frame.specs.Range.{good_attested};
-ghost use Rattle.report.specs.Faults.{code_of, first_fault};
+ghost use Rattle.report.specs.Faults.{code_of};
 ghost use Rattle.report.specs.Stands.{values_of, not_falling, list_fault, signer_members, bits_fault, repeat_fault, signers_fault, attested_fault};
 ghost use Rattle.report.specs.Kept.{keeping, cleared};
 ghost use Rattle.report.specs.Newer.{newer};
 ghost use Rattle.report.specs.Whole.{WholeList, WholeReport, part_of};
 
-use config::{Answer, Config};
+use config::{Config, Refusal};
 
 // What is wrong with a report.
-#[derive(Clone, Copy)]
+#[derive(Clone, Copy, PartialEq, Eq)]
 pub enum Fault {
-    Nothing,
     // at most 2f observations
     Few,
     // a value below the one before it
@@ -33,64 +32,52 @@ pub enum Fault {
     ClearBit(usize),
 }
 
-impl Fault {
-    // The answer that a fault is given.
-    pub fn code(self) -> Answer
-        ensures { result ≡ code_of self }
-    {
-        match self {
-            Fault::Nothing => Answer::Done,
-            Fault::Few => Answer::Few,
-            Fault::Falling => Answer::Order,
-            Fault::Twice => Answer::Twice,
-            Fault::TooFewSigners => Answer::Signers,
-            Fault::SignerTwice(_) => Answer::Signers,
-            Fault::ClearBit(_) => Answer::Signers,
-        }
-    }
+// Whether a report stands, and else what is wrong with it.
+pub type Standing = Result<(), Fault>;
 
-    // This fault, or the later one where there is none.
-    pub fn or(self, later: Fault) -> Fault
-        ensures { result ≡ first_fault self later }
-    {
-        match self {
-            Fault::Nothing => later,
-            Fault::Few => Fault::Few,
-            Fault::Falling => Fault::Falling,
-            Fault::Twice => Fault::Twice,
-            Fault::TooFewSigners => Fault::TooFewSigners,
-            Fault::SignerTwice(i) => Fault::SignerTwice(i),
-            Fault::ClearBit(i) => Fault::ClearBit(i),
+impl From<Fault> for Refusal {
+    ghost from_gives = { λ fault refusal. Err refusal ≡ code_of (Err fault) };
+
+    // The answer that a fault is given.
+    fn from(fault: Fault) -> Refusal {
+        match fault {
+            Fault::Few => Refusal::Few,
+            Fault::Falling => Refusal::Order,
+            Fault::Twice => Refusal::Twice,
+            Fault::TooFewSigners => Refusal::Signers,
+            Fault::SignerTwice(_) => Refusal::Signers,
+            Fault::ClearBit(_) => Refusal::Signers,
         }
     }
 }
 
 // Checks 14 to 17 of the report in a body.
 #[tactic(auto, using(crate::proofs::Whole::report_list), unfolding(crate::specs::Stands::attested_fault))]
-pub fn attested_fault(body: &[u8], f: u8, bits: u64) -> Fault
+pub fn attested_fault(body: &[u8], f: u8, bits: u64) -> Standing
     requires { WholeReport body.now }
     ensures { result ≡ attested_fault f bits (attested_in body.now) }
 {
-    list_fault(body, frame::stride(6), f).or(signers_fault(body, f, bits))
+    list_fault(body, frame::stride(6), f)?;
+    signers_fault(body, f, bits)
 }
 
 // Checks 14 to 16 of a list of observations, whatever stride its entries have.
 #[tactic(auto, using(frame::proofs::Entries::length_entries, crate::proofs::Whole::list_stride, crate::proofs::Whole::distinct_members), unfolding(crate::specs::Stands::list_fault))]
-pub fn list_fault(body: &[u8], stride: usize, f: u8) -> Fault
+pub fn list_fault(body: &[u8], stride: usize, f: u8) -> Standing
     requires { WholeList stride body.now }
     ensures { result ≡ list_fault f (observations_in stride body.now) }
 {
     let m = frame::count_of(body);
     if m <= 2 * (f as usize) {
-        return Fault::Few;
+        return Err(Fault::Few);
     }
     if !not_falling(body, stride) {
-        return Fault::Falling;
+        return Err(Fault::Falling);
     }
     if quorum::first_repeat(body, frame::LIST, stride, m) != m {
-        return Fault::Twice;
+        return Err(Fault::Twice);
     }
-    Fault::Nothing
+    Ok(())
 }
 
 // Whether no value is below the one before it.
@@ -121,41 +108,42 @@ pub fn below(v: i64, w: i64) -> bool
 
 // Check 17 of the report in a body.
 #[tactic(auto, using(frame::proofs::Entries::length_entries, crate::proofs::Whole::report_head, crate::proofs::Whole::report_list_end), unfolding(crate::specs::Stands::signers_fault))]
-fn signers_fault(body: &[u8], f: u8, bits: u64) -> Fault
+fn signers_fault(body: &[u8], f: u8, bits: u64) -> Standing
     requires { WholeReport body.now }
     ensures { result ≡ signers_fault f bits (signers_in body.now) }
 {
     let s = frame::signer_count(body);
     if s <= f as usize {
-        return Fault::TooFewSigners;
+        return Err(Fault::TooFewSigners);
     }
-    repeat_fault(body).or(bits_fault(bits, s))
+    repeat_fault(body)?;
+    bits_fault(bits, s)
 }
 
 // A signer that signed before.
 #[tactic(auto, using(crate::proofs::Whole::report_head, crate::proofs::Whole::report_list_end, crate::proofs::Whole::report_signers, crate::proofs::Whole::signer_stride, crate::proofs::Whole::length_each, crate::proofs::Whole::repeat_members, crate::proofs::Faults::fault_at, crate::proofs::Faults::fault_none), unfolding(crate::specs::Stands::repeat_fault))]
-fn repeat_fault(body: &[u8]) -> Fault
+fn repeat_fault(body: &[u8]) -> Standing
     requires { WholeReport body.now }
     ensures { result ≡ repeat_fault (signer_members (signers_in body.now)) }
 {
     let s = frame::signer_count(body);
     let i = quorum::first_repeat(body, frame::list_end(body) + 1, frame::signer_stride(), s);
     if i < s {
-        return Fault::SignerTwice(i);
+        return Err(Fault::SignerTwice(i));
     }
-    Fault::Nothing
+    Ok(())
 }
 
 // A clear bit among the first `many`.
 #[tactic(auto, using(crate::proofs::Faults::fault_at, crate::proofs::Faults::fault_none), unfolding(crate::specs::Stands::bits_fault))]
-pub fn bits_fault(bits: u64, many: usize) -> Fault
+pub fn bits_fault(bits: u64, many: usize) -> Standing
     ensures { result ≡ bits_fault bits many }
 {
     let i = quorum::first_clear(bits, many);
     if i < many {
-        return Fault::ClearBit(i);
+        return Err(Fault::ClearBit(i));
     }
-    Fault::Nothing
+    Ok(())
 }
 
 // The median of a list of observations, as written.

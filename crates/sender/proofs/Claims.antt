@@ -12,7 +12,7 @@ use lib.Seq.{length-take-le}
 use Rattle.config.specs.Limits.{kept_size, slots, waiting_size}
 use Rattle.config.specs.Bounds.{config_of, none_empty, sum, good_feed, good_config}
 use Rattle.config.specs.Codes.{number_of, is_done}
-use Rattle.config.specs.declared.Answer.TheVariants as answer
+use Rattle.config.specs.Answers as answer
 use Rattle.config.specs.declared.Config.{Config}
 use Rattle.config.specs.declared.Commit.{Commit}
 use Rattle.config.proofs.Facts.{good_facts}

@@ -8,7 +8,7 @@ use lib.Dec.{eqb, ltb}
 use Rattle.config.specs.Limits.{slots}
 use Rattle.config.specs.Bounds.{good_config, good_time, good_commit, paired}
 use Rattle.config.specs.Codes.{number_of, is_done}
-use Rattle.config.specs.declared.Answer.TheVariants as answer
+use Rattle.config.specs.Answers as answer
 use Rattle.config.specs.declared.Commit.{Commit}
 use Rattle.config.proofs.Facts.{and-true}
 use Rattle.config.proofs.Passed.{itself, stage_passed, answer_passed, answer_told}

@@ -8,7 +8,7 @@ use lib.ListN.{length, take, drop, length-drop}
 use lib.Seq.{length-take-le, take-take}
 use Rattle.config.specs.Limits.{kept_size}
 use Rattle.config.specs.declared.Commit.{Commit}
-use Rattle.config.specs.declared.Answer.TheVariants.{Done}
+use Rattle.config.specs.Answers.{Done}
 use Rattle.wire.specs.Numbers.{part}
 use Rattle.frame.specs.Decode.{attested_in}
 use Rattle.frame.specs.Range.{good_attested}

@@ -7,7 +7,7 @@ use lib.Dec.{eqb}
 use Rattle.config.specs.Limits.{slots}
 use Rattle.config.specs.Bounds.{good_config, good_time, good_commit}
 use Rattle.config.specs.Codes.{number_of, is_done}
-use Rattle.config.specs.declared.Answer.TheVariants as answer
+use Rattle.config.specs.Answers as answer
 use Rattle.config.specs.declared.Commit.{Commit}
 use Rattle.frame.specs.Message.{Attested}
 use Rattle.frame.specs.Decode.{attested_in}

@@ -12,7 +12,7 @@ use lib.ListN.{length, get_or, take, drop, length-drop}
 use lib.Seq.{length-take-le, drop-cons, get_or-take, get_or-drop}
 use borrow.Rule.Slice.PartMut.{mid_of, put_mid}
 use Rattle.config.specs.Limits.{members, last_time, longest_delay, kept_size, slots, waiting_size}
-use Rattle.config.specs.declared.Answer.TheVariants.{Done}
+use Rattle.config.specs.Answers.{Done}
 use Rattle.wire.specs.Overlay.{over}
 use Rattle.wire.proofs.Overlay.{lent_start}
 use Rattle.quorum.proofs.Counts.{every_suc}

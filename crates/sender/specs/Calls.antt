@@ -3,8 +3,8 @@ use Rattle.std.specs.Prelude.{Bool, not, cond, ◌&&◌, ◌||◌, List, ℕ, �
 use Rattle.config.specs.Limits.{kept_size, slots}
 use Rattle.config.specs.Bounds.{good_config, good_time, good_commit}
 use Rattle.config.specs.Codes.{is_done, making}
-use Rattle.config.specs.declared.Answer.{Answer}
-use Rattle.config.specs.declared.Answer.TheVariants as answer
+use Rattle.config.specs.Answers.{Answer}
+use Rattle.config.specs.Answers as answer
 use Rattle.config.specs.declared.Config.{Config}
 use Rattle.config.specs.declared.Commit.{Commit}
 use Rattle.wire.specs.Overlay.{over}

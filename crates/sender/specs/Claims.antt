@@ -3,8 +3,8 @@ use Rattle.std.specs.Prelude.{◌≡◌, true, false, cond, ◌&&◌, ◌⊎◌,
 use Rattle.config.specs.Limits.{slots, most_stages}
 use Rattle.config.specs.Bounds.{good_config, good_time, good_commit, sum}
 use Rattle.config.specs.Codes.{number_of, is_done}
-use Rattle.config.specs.declared.Answer.{Answer}
-use Rattle.config.specs.declared.Answer.TheVariants as answer
+use Rattle.config.specs.Answers.{Answer}
+use Rattle.config.specs.Answers as answer
 use Rattle.config.specs.declared.Config.{Config}
 use Rattle.config.specs.declared.Commit.{Commit}
 use Rattle.quorum.specs.First.{among, OneOf}

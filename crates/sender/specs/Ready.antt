@@ -2,7 +2,7 @@
 use Rattle.std.specs.Prelude.{◌≡◌, true, List, ℕ, ◌≤◌, ◌<◌, length}
 use Rattle.config.specs.Limits.{last_time, slots, waiting_size}
 use Rattle.config.specs.Bounds.{good_config}
-use Rattle.config.specs.declared.Answer.TheVariants.{Done}
+use Rattle.config.specs.Answers.{Done}
 use Rattle.frame.specs.Check.{body_answer}
 use Rattle.sender.specs.declared.Sender.{Sender}
 use Rattle.sender.specs.Stage.{waits}

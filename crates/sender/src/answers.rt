@@ -2,7 +2,7 @@
 ghost use Rattle.std.specs.Prelude.{◌≡◌, true, not, ◌&&◌, ◌||◌, ◌≤◌, ◌<◌, eqb, length};
 ghost use Rattle.config.specs.Limits.{members, slots, waiting_size};
 ghost use Rattle.config.specs.Bounds.{good_config, good_time, good_commit};
-ghost use Rattle.config.specs.declared.Answer.TheVariants.{Done};
+ghost use Rattle.config.specs.Answers.{Done};
 ghost use Rattle.frame.specs.Decode.{attested_in};
 ghost use Rattle.frame.specs.Check.{body_answer};
 ghost use Rattle.frame.specs.Range.{good_attested};

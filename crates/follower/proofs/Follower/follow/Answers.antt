@@ -2,7 +2,7 @@
 -- report that it carries.
 use Rattle.std.proofs.Common.{◌≡◌, ℕ, ◌≤◌, List, get_or, map, sym, ap, ◌∙◌, Fits, w8, w64, arith, rules}
 use Rattle.std.proofs.lemmas.Int.{to_z-of_z}
-use Rattle.config.specs.declared.Answer.TheVariants.{Done}
+use Rattle.config.specs.Answers.{Done}
 use Rattle.price.specs.Median.{median_of}
 use Rattle.frame.specs.Message.{Signed}
 use Rattle.frame.specs.Decode.{signed_in, attested_in, message_of}
