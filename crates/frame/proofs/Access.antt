@@ -9,8 +9,13 @@ use borrow.Author.Tests.{lt-leb, le-leb, ltb-true, ltb-false, ne_eqb}
 use lib.Dec.{leb, ltb, eqb}
 use lib.ListN.{length, get_or, take, drop}
 use lib.Seq.{get_or-take, get_or-drop, drop-drop, take-take}
-use Rattle.wire.specs.Numbers.{part}
-use Rattle.frame.specs.Decode.{entries, list_place, ListIn}
+use lib.IntN.{ℤ}
+use mir.Syntax.{w64}
+use mir.Val.{to_z}
+use Rattle.wire.specs.Numbers.{part, be_number}
+use Rattle.frame.specs.Message.{Observation, Signer, no_observation, no_signer}
+use Rattle.frame.specs.Table.{table, shape_of}
+use Rattle.frame.specs.Decode.{entries, observation_at, signer_at, count_in, list_place, list_end, observations_in, signer_count_in, signers_in, ListIn, SignersIn}
 use Rattle.frame.specs.Range.{one_to_n, all_members, good_entries}
 use Rattle.frame.proofs.Ranges.{members_map}
 use Rattle.frame.proofs.Entries.{length_entries, map_entries}
@@ -48,6 +53,30 @@ part_of_part l at n a m h = part_of_take m a n (drop at l) h ∙ ap (take m) (dr
 
 pub first_of_part : (l : List ℕ) (at n : ℕ) → 0 < n → get_or (part l at n) 0 0 ≡ get_or l at 0
 first_of_part l at n h = get_or-take n (drop at l) 0 0 h ∙ get_or-drop at l 0 0 ∙ ap (λ (k : ℕ). get_or l k 0) (add-zero at)
+
+-- what is read of entry i, in its bytes, is what the list says of it
+read_entry : {A B : Type 0} (of : A → B) (says : List ℕ → A) (stride many at : ℕ) (b : List ℕ) (i : ℕ) (none : A) (read : B) → i < many → read ≡ of (says (part b (at + i * stride) stride)) → read ≡ of (get_or (entries says stride many (drop at b)) i none)
+read_entry of says stride many at b i none read h e = e ∙ sym (ap of (entry_at says stride many at b i none h))
+
+pub member_read : {stride i : ℕ} {b : List ℕ} → ListIn stride i b → get_or b (list_place + i * stride) 0 ≡ (get_or (observations_in stride b) i no_observation).member
+unfolding shape_of table
+member_read {stride} {i} {b} h =
+    let at = list_place + i * stride in
+    read_entry (λ (o : Observation). o.member) observation_at stride (count_in b) list_place b i no_observation (get_or b at 0) h.known (sym (first_of_part b at stride (omega arith)))
+
+pub value_read : {stride i : ℕ} {b : List ℕ} → ListIn stride i b → to_z w64 (be_number (part b (list_place + i * stride + 1) 8)) ≡ (get_or (observations_in stride b) i no_observation).value
+unfolding shape_of table
+value_read {stride} {i} {b} h =
+    let at = list_place + i * stride in
+    let value : List ℕ → ℤ = λ l. to_z w64 (be_number l) in
+    read_entry (λ (o : Observation). o.value) observation_at stride (count_in b) list_place b i no_observation (value (part b (at + 1) 8)) h.known (ap value (sym (part_of_part b at stride 1 8 (omega arith))))
+
+pub signer_read : {i : ℕ} {b : List ℕ} → SignersIn i b → get_or b (list_end b + 1 + i * (shape_of 6).signer) 0 ≡ (get_or (signers_in b) i no_signer).member
+unfolding shape_of table
+signer_read {i} {b} h =
+    let stride = (shape_of 6).signer in
+    let at = list_end b + 1 + i * stride in
+    read_entry (λ (x : Signer). x.member) signer_at stride (signer_count_in b) (list_end b + 1) b i no_signer (get_or b at 0) h.known (sym (first_of_part b at stride (omega arith)))
 
 -- a slice from `start` to `start + size`, which may be written otherwise
 pub part_from : (b : List ℕ) (start to size : ℕ) → start ≡ to → take (start + size - start) (drop start b) ≡ part b to size

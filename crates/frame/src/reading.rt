@@ -96,7 +96,7 @@ pub fn count_of(body: &[u8]) -> usize
 }
 
 // The member of observation i, in a list whose entries have this stride.
-#[tactic(auto, using(crate::proofs::Access::entry_in, crate::proofs::Access::entry_at, crate::proofs::Access::first_of_part), unfolding(crate::specs::Table::shape_of))]
+#[tactic(auto, using(crate::proofs::Access::entry_in, crate::proofs::Access::member_read), unfolding(crate::specs::Table::shape_of))]
 pub fn member_at(body: &[u8], stride: usize, i: usize) -> u8
     requires { ListIn stride i body.now }
     ensures { result ≡ (get_or (observations_in stride body.now) i no_observation).member }
@@ -105,7 +105,7 @@ pub fn member_at(body: &[u8], stride: usize, i: usize) -> u8
 }
 
 // Its value.
-#[tactic(auto, using(crate::proofs::Access::entry_in, crate::proofs::Access::entry_at, crate::proofs::Access::part_of_part), unfolding(crate::specs::Table::shape_of))]
+#[tactic(auto, using(crate::proofs::Access::entry_in, crate::proofs::Access::value_read), unfolding(crate::specs::Table::shape_of))]
 pub fn value_at(body: &[u8], stride: usize, i: usize) -> i64
     requires { ListIn stride i body.now }
     ensures { result ≡ (get_or (observations_in stride body.now) i no_observation).value }
@@ -143,7 +143,7 @@ pub fn signer_count(body: &[u8]) -> usize
 }
 
 // The member of signer i.
-#[tactic(auto, using(crate::proofs::Access::entry_at, crate::proofs::Access::first_of_part), unfolding(crate::specs::Table::body_length, crate::specs::Table::shape_of))]
+#[tactic(auto, using(crate::proofs::Access::signer_read), unfolding(crate::specs::Table::body_length, crate::specs::Table::shape_of))]
 pub fn signer_at(body: &[u8], i: usize) -> u8
     requires { SignersIn i body.now }
     ensures { result ≡ (get_or (signers_in body.now) i no_signer).member }
