@@ -14,7 +14,7 @@ use mir.Syntax.{w64}
 use mir.Val.{to_z}
 use Rattle.wire.specs.Numbers.{part, be_number}
 use Rattle.frame.specs.Message.{Observation, Signer, no_observation, no_signer}
-use Rattle.frame.specs.Table.{table, shape_of}
+use Rattle.frame.specs.Table.{shape_of}
 use Rattle.frame.specs.Decode.{entries, observation_at, signer_at, count_in, list_place, list_end, observations_in, signer_count_in, signers_in, ListIn, SignersIn}
 use Rattle.frame.specs.Range.{one_to_n, all_members, good_entries}
 use Rattle.frame.proofs.Ranges.{members_map}
@@ -59,20 +59,20 @@ read_entry : {A B : Type 0} (of : A → B) (says : List ℕ → A) (stride many 
 read_entry of says stride many at b i none read h e = e ∙ sym (ap of (entry_at says stride many at b i none h))
 
 pub member_read : {stride i : ℕ} {b : List ℕ} → ListIn stride i b → get_or b (list_place + i * stride) 0 ≡ (get_or (observations_in stride b) i no_observation).member
-unfolding shape_of table
+unfolding shape_of
 member_read {stride} {i} {b} h =
     let at = list_place + i * stride in
     read_entry (λ (o : Observation). o.member) observation_at stride (count_in b) list_place b i no_observation (get_or b at 0) h.known (sym (first_of_part b at stride (omega arith)))
 
 pub value_read : {stride i : ℕ} {b : List ℕ} → ListIn stride i b → to_z w64 (be_number (part b (list_place + i * stride + 1) 8)) ≡ (get_or (observations_in stride b) i no_observation).value
-unfolding shape_of table
+unfolding shape_of
 value_read {stride} {i} {b} h =
     let at = list_place + i * stride in
     let value : List ℕ → ℤ = λ l. to_z w64 (be_number l) in
     read_entry (λ (o : Observation). o.value) observation_at stride (count_in b) list_place b i no_observation (value (part b (at + 1) 8)) h.known (ap value (sym (part_of_part b at stride 1 8 (omega arith))))
 
 pub signer_read : {i : ℕ} {b : List ℕ} → SignersIn i b → get_or b (list_end b + 1 + i * (shape_of 6).signer) 0 ≡ (get_or (signers_in b) i no_signer).member
-unfolding shape_of table
+unfolding shape_of
 signer_read {i} {b} h =
     let stride = (shape_of 6).signer in
     let at = list_end b + 1 + i * stride in

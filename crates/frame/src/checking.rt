@@ -67,14 +67,13 @@ fn check_bare(kind: Kind, body: &[u8], n: u8) -> Answer
     requires { number_of kind ≤ 3 }
     ensures { result ≡ body_answer n (number_of kind) body.now }
 {
-    let length = crate::body_length(kind, 0, 0);
-    if body.len() != length {
+    if body.len() != crate::body_length(kind, 0, 0) {
         return Err(Refusal::Length);
     }
-    match kind {
-        Kind::NewEpoch => ranged(good_epoch(reading::epoch_of(body))),
-        _ => ranged(good_head(body)),
-    }
+    ranged(match kind {
+        Kind::NewEpoch => good_epoch(reading::epoch_of(body)),
+        _ => good_head(body),
+    })
 }
 
 // The kinds that list observations and no signers.

@@ -124,13 +124,11 @@ pub fn version(n: u8) -> u16
 pub fn goes_to(kind: u8, leader: u8) -> Destination
     ensures { result ≡ destination_of kind leader }
 {
-    let Ok(kind) = Kind::try_from(kind) else {
-        return Destination::Nobody;
-    };
-    if shape_of(kind).leader {
-        return Destination::Member(leader);
+    match Kind::try_from(kind) {
+        Ok(kind) if shape_of(kind).leader => Destination::Member(leader),
+        Ok(_) => Destination::All,
+        Err(_) => Destination::Nobody,
     }
-    Destination::All
 }
 
 // The bytes that each observation takes in a body of a kind.
