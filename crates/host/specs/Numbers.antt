@@ -7,7 +7,7 @@ use Rattle.node.specs.declared.Fired.TheVariants.{Resend, Progress, Round, Grace
 use Rattle.sender.specs.declared.Transmit.{Transmit}
 use Rattle.sender.specs.declared.Transmit.TheVariants as transmit
 use Rattle.report.specs.declared.Fault.{Fault}
-use Rattle.report.specs.declared.Fault.TheVariants.{Nothing, Few, Falling, Twice, TooFewSigners, SignerTwice, ClearBit}
+use Rattle.report.specs.Faults.{Nothing, Few, Falling, Twice, TooFewSigners, SignerTwice, ClearBit}
 
 abbrev pub flag_of : Bool → ℕ
 flag_of b = cond b 1 0

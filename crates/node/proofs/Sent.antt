@@ -12,7 +12,7 @@ use Rattle.frame.specs.Message.{Signed, Message, new_epoch, observe_req, observe
 use Rattle.frame.specs.Decode.{message_in}
 use Rattle.frame.specs.Claims.{Each}
 use Rattle.frame.proofs.Entries.{each_append}
-use Rattle.report.specs.declared.Fault.TheVariants as fault
+use Rattle.report.specs.Faults as fault
 use Rattle.report.specs.Stands.{list_fault, bits_fault, values_of}
 use Rattle.report.proofs.Faults.{first_nothing}
 use Rattle.report.proofs.Stands.{bits_fault_nothing}

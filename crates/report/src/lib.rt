@@ -14,6 +14,7 @@ ghost use Rattle.report.specs.Newer.{newer};
 ghost use Rattle.report.specs.Whole.{WholeList, WholeReport, part_of};
 
 use config::{Config, Refusal};
+use frame::Kind;
 
 // What is wrong with a report.
 #[derive(Clone, Copy, PartialEq, Eq)]
@@ -57,7 +58,7 @@ pub fn attested_fault(body: &[u8], f: u8, bits: u64) -> Standing
     requires { WholeReport body.now }
     ensures { result ≡ attested_fault f bits (attested_in body.now) }
 {
-    list_fault(body, frame::stride(6), f)?;
+    list_fault(body, frame::stride(Kind::Final), f)?;
     signers_fault(body, f, bits)
 }
 
