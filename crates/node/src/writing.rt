@@ -11,16 +11,20 @@ ghost use Rattle.node.specs.Ready.{WroteAll, AskingFits, Answers, ReplyFits};
 use config::Config;
 use follower::Reply;
 use leader::{Asking, Leader};
-use pacemaker::Sent;
 
 // Writes the NEWEPOCH that the pacemaker sends, if it does.
-pub(crate) fn write_announced(config: Config, sent: Sent, outbox: &mut [u8], at: usize) -> usize
+pub(crate) fn write_announced(
+    config: Config,
+    sent: Option<u32>,
+    outbox: &mut [u8],
+    at: usize,
+) -> usize
     requires { Fits 1 0 0 outbox.old at }
     ensures { WroteAll config (announced sent) outbox.old at outbox.new result }
 {
     match sent {
-        Sent::Nothing => 0,
-        Sent::NewEpoch(x) => outbox::write_newepoch(outbox, at, config, x),
+        None => 0,
+        Some(x) => outbox::write_newepoch(outbox, at, config, x),
     }
 }
 
