@@ -5,6 +5,7 @@ use Rattle.config.specs.declared.Commit.{Commit}
 use Rattle.frame.specs.Message.{Message}
 use Rattle.follower.specs.declared.Handed.{Handed}
 use Rattle.node.specs.declared.Node.{Node}
+use Rattle.node.specs.declared.Arrival.{Arrival}
 use Rattle.node.specs.declared.Fired.{Fired}
 use Rattle.node.specs.declared.Fired.TheVariants.{Resend, Progress, Round, Grace}
 use Rattle.node.specs.declared.NoTimer.{NoTimer}
@@ -31,6 +32,10 @@ pub record Delivery : Type 0 where
 abbrev pub delivery : ℕ → ℕ → ℤ → Commit → ℕ → List ℕ → Delivery
 delivery link time observation commit bits frame =
     record { link = link; time = time; observation = observation; commit = commit; bits = bits; frame = frame }
+
+-- what the host hands over with a delivery
+abbrev pub delivery_of : Arrival → Delivery
+delivery_of a = delivery a.link a.time a.observation a.commit a.bits a.frame.now
 
 -- which timer has fired: 0 T_resend, 1 T_progress, 2 T_round, 3 T_grace; asked of these four alone
 abbrev pub fired_of : ℕ → Fired

@@ -6,7 +6,8 @@ ghost use Rattle.frame.specs.Kinds.{number_of};
 ghost use Rattle.frame.specs.Decode.{message_of};
 ghost use Rattle.frame.specs.Check.{frame_answer};
 ghost use Rattle.node.specs.State.{leads, good_node, good_state, roomy};
-ghost use Rattle.node.specs.Answers.{start_answer, firing, ending, timer_answer, unarmed_answer, follower_answer, leader_answer, rule_answer, message_answer, delivery_answer, after_state};
+ghost use Rattle.node.specs.Event.{delivers, delivery_of};
+ghost use Rattle.node.specs.Answers.{start_answer, firing, ending, timer_answer, unarmed_answer, follower_answer, leader_answer, rule_answer, message_answer, event_answer, after_state};
 ghost use Rattle.node.specs.Calls.{restore_answer};
 ghost use Rattle.node.specs.Ready.{Sound};
 
@@ -171,7 +172,7 @@ impl Node {
     // A delivery: 2, 3, 4 to 9 of the frame, then what comes after those.
     #[tactic(auto, using(config::proofs::Facts::done_only, crate::proofs::Checks::state_then, crate::proofs::Checks::state_config), unfolding(crate::specs::Answers::delivery_answer))]
     pub(crate) fn delivery_answer(self, arrival: Arrival<'_>, room: bool, kept: &[u8]) -> Answer
-        ensures { result ≡ after_state room self kept.now (delivery_answer self arrival.link arrival.time arrival.commit arrival.bits arrival.frame.now) }
+        ensures { result ≡ after_state room self kept.now (event_answer self (delivers (delivery_of arrival.entry))) }
     {
         self.after_state(room, kept, Ok(()))?;
         let config = self.config;
@@ -183,7 +184,7 @@ impl Node {
     #[tactic(auto, using(frame::proofs::Framed::checked_frame, crate::proofs::Ready::sound_frame), unfolding(crate::specs::Answers::delivery_answer, config::specs::Codes::number_of))]
     fn after_frame(self, arrival: Arrival<'_>) -> Answer
         requires { (good_config self.config ≡ true) × (frame_answer arrival.frame.now self.config.n self.config.number arrival.link ≡ Done) }
-        ensures { result ≡ delivery_answer self arrival.link arrival.time arrival.commit arrival.bits arrival.frame.now }
+        ensures { result ≡ event_answer self (delivers (delivery_of arrival.entry)) }
     {
         if !(config::good_time(arrival.time) & arrival.commit.good()) {
             return Err(Refusal::Range);

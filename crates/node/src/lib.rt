@@ -6,7 +6,7 @@ mod rules;
 mod writing;
 
 ghost use Rattle.std.specs.Prelude.{◌≡◌};
-ghost use Rattle.node.specs.Event.{delivery, starts, delivers, fires, Names};
+ghost use Rattle.node.specs.Event.{delivery_of, starts, delivers, fires, Names};
 ghost use Rattle.node.specs.Effects.{nothing_handed};
 ghost use Rattle.node.specs.Calls.{restore_of, fresh_of, out, refusing, doing, call_of, unarmed_of};
 
@@ -162,7 +162,7 @@ impl Node {
         kept: &mut [u8],
         signatures: &mut [u8],
     ) -> Outcome
-        ensures { out result outbox.new kept.new signatures.new ≡ call_of self (delivers (delivery arrival.link arrival.time arrival.observation arrival.commit arrival.bits arrival.frame.now)) outbox.old at kept.old signatures.old }
+        ensures { out result outbox.new kept.new signatures.new ≡ call_of self (delivers (delivery_of arrival.entry)) outbox.old at kept.old signatures.old }
     {
         let room = answers::roomy(outbox.len(), at, kept.len(), signatures.len());
         let answer = self.delivery_answer(arrival, room, &kept[..]);

@@ -6,7 +6,7 @@ ghost use Rattle.frame.specs.Kinds.{number_of};
 ghost use Rattle.frame.specs.Decode.{message_of, message_in};
 ghost use Rattle.outbox.specs.Written.{Fits};
 ghost use Rattle.leader.specs.Rules.{no_signatures};
-ghost use Rattle.node.specs.Event.{whole, delivery};
+ghost use Rattle.node.specs.Event.{whole, delivery_of};
 ghost use Rattle.node.specs.Answers.{ending};
 ghost use Rattle.node.specs.Effects.{raising, begun, pacing, moving, hearing, following, paced_timers, led_timers, moved_timers, leading, led_by, delivering, timing};
 ghost use Rattle.node.specs.Calls.{out, settled};
@@ -31,7 +31,7 @@ impl Node {
         signatures: &mut [u8],
     ) -> Outcome
         requires { Taken self arrival.link arrival.frame.now kept.old × Room outbox.old at kept.old signatures.old }
-        ensures { (bits : ℕ) → out result outbox.new kept.new signatures.new ≡ settled (delivering (whole self kept.old signatures.old) (delivery arrival.link arrival.time arrival.observation arrival.commit bits arrival.frame.now) (message_in arrival.frame.now)) outbox.old at }
+        ensures { out result outbox.new kept.new signatures.new ≡ settled (delivering (whole self kept.old signatures.old) (delivery_of arrival.entry) (message_in arrival.entry.frame.now)) outbox.old at }
     {
         let kind = frame::known_kind(arrival.frame);
         let body = frame::body_of(arrival.frame);
@@ -135,7 +135,7 @@ impl Node {
         kept: &mut [u8],
     ) -> Outcome
         requires { Taken self arrival.link arrival.frame.now kept.old × (at + outbox_size ≤ length outbox.old) × (kept_size ≤ length kept.old) }
-        ensures { (bits : ℕ) (signatures : List ℕ) → out result outbox.new kept.new signatures ≡ settled (following (whole self kept.old signatures) (delivery arrival.link arrival.time arrival.observation arrival.commit bits arrival.frame.now) (message_in arrival.frame.now)) outbox.old at }
+        ensures { (signatures : List ℕ) → out result outbox.new kept.new signatures ≡ settled (following (whole self kept.old signatures) (delivery_of arrival.entry) (message_in arrival.entry.frame.now)) outbox.old at }
     {
         let config = self.config;
         let follower = self.follower;
