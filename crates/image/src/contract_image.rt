@@ -2,7 +2,7 @@
 ghost use Rattle.std.specs.Prelude.{◌+◌, ◌≤◌, length};
 ghost use Rattle.image.specs.Image.{account_size, ledger_size, terms_size, contract_size};
 
-use crate::entries::{Entry, entries_at, put_entries};
+use crate::entries::{Entry, entries_at, put_bytes, put_entries};
 use crate::{ACCOUNT, COMMIT, LEDGER};
 use contract::{Contract, Terms};
 use ledger::{Account, Ledger};
@@ -77,6 +77,5 @@ fn put_terms(s: &mut [u8], at: usize, terms: Terms)
 {
     wire::put_u64(s, at, terms.observation_fee);
     wire::put_u64(s, at + 8, terms.sending_fee);
-    wire::put_u8(s, at + 16, terms.n);
-    wire::put_u8(s, at + 17, terms.f);
+    put_bytes(s, at + 16, &[terms.n, terms.f]);
 }

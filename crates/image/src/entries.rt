@@ -1,9 +1,9 @@
-// Entries of a fixed width, one behind the other: the numbers of a list, and the accounts of a ledger.
+// Entries of a fixed width, one behind the other: the numbers of a list, and the accounts of a ledger; and plain bytes.
 ghost use Rattle.std.specs.Prelude.{ℕ, ◌+◌, ◌*◌, ◌≤◌, length};
 
 use std::array;
 
-// What stands in so many bytes of an image.
+// What stands in WIDTH bytes of an image.
 pub trait Entry: Copy {
     const WIDTH: usize;
 
@@ -58,6 +58,7 @@ impl Entry for i64 {
     }
 }
 
+// As many entries as the array has, from a place on.
 pub fn entries_at<T: Entry, const N: usize>(s: &[u8], at: usize) -> [T; N]
     requires { at + T.WIDTH * N ≤ length s.now }
 {
@@ -68,6 +69,7 @@ pub fn entries_at<T: Entry, const N: usize>(s: &[u8], at: usize) -> [T; N]
     )
 }
 
+// The entries, from a place on.
 pub fn put_entries<T: Entry>(s: &mut [u8], at: usize, entries: &[T])
     requires { at + T.WIDTH * length entries.now ≤ length s.old }
 {
@@ -76,6 +78,7 @@ pub fn put_entries<T: Entry>(s: &mut [u8], at: usize, entries: &[T])
     }
 }
 
+// As many bytes as the array has, from a place on.
 pub fn bytes_at<const N: usize>(s: &[u8], at: usize) -> [u8; N]
     requires { at + N ≤ length s.now }
 {
@@ -84,6 +87,7 @@ pub fn bytes_at<const N: usize>(s: &[u8], at: usize) -> [u8; N]
     bytes
 }
 
+// The bytes, from a place on.
 pub fn put_bytes(s: &mut [u8], at: usize, bytes: &[u8])
     requires { at + length bytes.now ≤ length s.old }
 {

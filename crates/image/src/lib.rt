@@ -68,19 +68,12 @@ pub fn put_config(s: &mut [u8], at: usize, config: Config)
     wire::put_u64(s, at + 8, config.delta_c);
     wire::put_u64(s, at + 16, config.delta_stage);
     wire::put_u32(s, at + 24, config.alpha);
-    put_counts(s, at + 28, config);
+    put_bytes(
+        s,
+        at + 28,
+        &[config.n, config.f, config.own, config.r_max, config.stages],
+    );
     put_bytes(s, at + 33, &config.schedule);
-}
-
-// The numbers of one byte.
-fn put_counts(s: &mut [u8], at: usize, config: Config)
-    requires { at + 5 ≤ length s.old }
-{
-    wire::put_u8(s, at, config.n);
-    wire::put_u8(s, at + 1, config.f);
-    wire::put_u8(s, at + 2, config.own);
-    wire::put_u8(s, at + 3, config.r_max);
-    wire::put_u8(s, at + 4, config.stages);
 }
 
 pub fn commit_at(s: &[u8], at: usize) -> Commit

@@ -3,7 +3,7 @@
 ghost use Rattle.std.specs.Prelude.{◌≡◌, ◌+◌, ◌≤◌, length};
 ghost use Rattle.image.specs.Memory.{memory_size, room_of, Within};
 
-use crate::entries::{bytes_at, put_bytes};
+use crate::entries::put_bytes;
 
 // The room of each buffer.
 pub const OUTBOX_ROOM: usize = 8192;
@@ -21,16 +21,17 @@ pub const SENDER_AT: usize = NODE_AT + crate::NODE;
 
 pub const CONTRACT_AT: usize = SENDER_AT + crate::SENDER;
 
-pub const OUTBOX_AT: usize = CONTRACT_AT + crate::CONTRACT;
+const OUTBOX_AT: usize = CONTRACT_AT + crate::CONTRACT;
 
-pub const KEPT_AT: usize = OUTBOX_AT + OUTBOX_ROOM;
+const KEPT_AT: usize = OUTBOX_AT + OUTBOX_ROOM;
 
-pub const SIGNATURES_AT: usize = KEPT_AT + KEPT_ROOM;
+const SIGNATURES_AT: usize = KEPT_AT + KEPT_ROOM;
 
-pub const WAITING_AT: usize = SIGNATURES_AT + SIGNATURES_ROOM;
+const WAITING_AT: usize = SIGNATURES_AT + SIGNATURES_ROOM;
 
 pub const SIZE: usize = WAITING_AT + WAITING_ROOM;
 
+// The buffers, in the order in which they lie.
 #[derive(Clone, Copy)]
 pub enum Buffer {
     Outbox,
@@ -66,7 +67,7 @@ impl Buffer {
 }
 
 // How long each buffer is.
-#[derive(Clone, Copy)]
+#[derive(Clone, Copy, Default)]
 pub struct Lengths {
     pub outbox: usize,
     pub kept: usize,
@@ -74,6 +75,7 @@ pub struct Lengths {
     pub waiting: usize,
 }
 
+// The bytes, and how long each buffer among them is. It is large: lend it, and do not pass it by value.
 #[derive(Drop)]
 pub struct Memory {
     pub bytes: [u8; SIZE],
@@ -86,24 +88,7 @@ impl Memory {
     pub fn new() -> Self {
         Memory {
             bytes: [0; SIZE],
-            lengths: Lengths {
-                outbox: 0,
-                kept: 0,
-                signatures: 0,
-                waiting: 0,
-            },
-        }
-    }
-
-    // How long a buffer is.
-    pub fn length(&self, buffer: Buffer) -> usize
-        ensures { result ≤ room_of buffer }
-    {
-        match buffer {
-            Buffer::Outbox => self.lengths.outbox,
-            Buffer::Kept => self.lengths.kept,
-            Buffer::Signatures => self.lengths.signatures,
-            Buffer::Waiting => self.lengths.waiting,
+            lengths: Lengths::default(),
         }
     }
 
@@ -116,11 +101,27 @@ impl Memory {
         &self.bytes[place..end]
     }
 
-    // A copy of a buffer with all of its room, to be lent as long as the buffer is.
-    pub fn copied<const N: usize>(&self, buffer: Buffer) -> [u8; N]
-        requires { N ≤ room_of buffer }
+    // A copy of a buffer in a room of the caller's, to be lent as it is.
+    pub fn copied<'a>(&self, buffer: Buffer, room: &'a mut [u8]) -> &'a mut [u8]
+        requires { room_of buffer ≤ length room.old }
+        ensures { length result.now ≤ room_of buffer }
     {
-        bytes_at(&self.bytes, buffer.place())
+        let bytes = self.buffer(buffer);
+        let copy = &mut room[..bytes.len()];
+        copy.copy_from_slice(bytes);
+        copy
+    }
+
+    // How long a buffer is.
+    fn length(&self, buffer: Buffer) -> usize
+        ensures { result ≤ room_of buffer }
+    {
+        match buffer {
+            Buffer::Outbox => self.lengths.outbox,
+            Buffer::Kept => self.lengths.kept,
+            Buffer::Signatures => self.lengths.signatures,
+            Buffer::Waiting => self.lengths.waiting,
+        }
     }
 
     // A buffer is set, if there is room for it; else false.

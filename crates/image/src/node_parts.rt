@@ -29,9 +29,7 @@ pub fn put_pace(s: &mut [u8], at: usize, pace: Pace)
     wire::put_u32(s, at, pace.epoch);
     wire::put_u32(s, at + 4, pace.highest);
     put_entries(s, at + 8, &pace.heard);
-    wire::put_u8(s, flags, pace.started);
-    wire::put_u8(s, flags + 1, pace.progress);
-    wire::put_u8(s, flags + 2, pace.resend);
+    put_bytes(s, flags, &[pace.started, pace.progress, pace.resend]);
 }
 
 pub fn follower_at(s: &[u8], at: usize) -> Follower
@@ -50,11 +48,14 @@ pub fn follower_at(s: &[u8], at: usize) -> Follower
 pub fn put_follower(s: &mut [u8], at: usize, follower: Follower)
     requires { at + follower_size ≤ length s.old }
 {
-    wire::put_u8(s, at, follower.live);
-    wire::put_u8(s, at + 1, follower.round);
-    wire::put_u8(s, at + 2, follower.signed);
-    wire::put_u8(s, at + 3, follower.completed);
-    wire::put_u8(s, at + 4, follower.kept);
+    let numbers = [
+        follower.live,
+        follower.round,
+        follower.signed,
+        follower.completed,
+        follower.kept,
+    ];
+    put_bytes(s, at, &numbers);
     put_bytes(s, at + 5, &follower.marks);
 }
 
@@ -84,8 +85,9 @@ pub fn put_leader(s: &mut [u8], at: usize, leader: Leader)
     put_entries(s, at, &leader.values);
     put_bytes(s, observed, &leader.observed);
     put_bytes(s, reported, &leader.reported);
-    wire::put_u8(s, phase, leader.phase);
-    wire::put_u8(s, phase + 1, leader.round);
-    wire::put_u8(s, phase + 2, leader.t_round);
-    wire::put_u8(s, phase + 3, leader.t_grace);
+    put_bytes(
+        s,
+        phase,
+        &[leader.phase, leader.round, leader.t_round, leader.t_grace],
+    );
 }

@@ -51,8 +51,8 @@ pub fn start<R: Print>(rt: &R, memory: &mut Memory, said: &[u8]) -> io::Result<b
     if said.len() != START {
         return Ok(false);
     }
-    let mut outbox: [u8; memory::OUTBOX_ROOM] = memory.copied(Buffer::Outbox);
-    let outbox = &mut outbox[..memory.length(Buffer::Outbox)];
+    let mut outbox = [0u8; memory::OUTBOX_ROOM];
+    let outbox = memory.copied(Buffer::Outbox, &mut outbox);
     let outcome = held(memory).start(
         wire::get_u64(said, 0),
         outbox,
@@ -70,12 +70,12 @@ pub fn deliver<R: Print>(rt: &R, memory: &mut Memory, said: &[u8]) -> io::Result
     if said.len() < DELIVERY {
         return Ok(false);
     }
-    let mut outbox: [u8; memory::OUTBOX_ROOM] = memory.copied(Buffer::Outbox);
-    let outbox = &mut outbox[..memory.length(Buffer::Outbox)];
-    let mut kept: [u8; memory::KEPT_ROOM] = memory.copied(Buffer::Kept);
-    let kept = &mut kept[..memory.length(Buffer::Kept)];
-    let mut signatures: [u8; memory::SIGNATURES_ROOM] = memory.copied(Buffer::Signatures);
-    let signatures = &mut signatures[..memory.length(Buffer::Signatures)];
+    let mut outbox = [0u8; memory::OUTBOX_ROOM];
+    let outbox = memory.copied(Buffer::Outbox, &mut outbox);
+    let mut kept = [0u8; memory::KEPT_ROOM];
+    let kept = memory.copied(Buffer::Kept, &mut kept);
+    let mut signatures = [0u8; memory::SIGNATURES_ROOM];
+    let signatures = memory.copied(Buffer::Signatures, &mut signatures);
     let outcome = held(memory).deliver(
         said[0],
         wire::get_u64(said, 1),
@@ -140,10 +140,10 @@ fn fires<R: Print>(
     time: u64,
     at: usize,
 ) -> io::Result<()> {
-    let mut outbox: [u8; memory::OUTBOX_ROOM] = memory.copied(Buffer::Outbox);
-    let outbox = &mut outbox[..memory.length(Buffer::Outbox)];
-    let mut signatures: [u8; memory::SIGNATURES_ROOM] = memory.copied(Buffer::Signatures);
-    let signatures = &mut signatures[..memory.length(Buffer::Signatures)];
+    let mut outbox = [0u8; memory::OUTBOX_ROOM];
+    let outbox = memory.copied(Buffer::Outbox, &mut outbox);
+    let mut signatures = [0u8; memory::SIGNATURES_ROOM];
+    let signatures = memory.copied(Buffer::Signatures, &mut signatures);
     let outcome = held(memory).timer(
         fired,
         time,

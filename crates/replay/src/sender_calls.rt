@@ -31,8 +31,8 @@ pub fn transmit<R: Print>(rt: &R, memory: &mut Memory, said: &[u8]) -> io::Resul
     if said.len() < end {
         return Ok(false);
     }
-    let mut waiting: [u8; memory::WAITING_ROOM] = memory.copied(Buffer::Waiting);
-    let waiting = &mut waiting[..memory.length(Buffer::Waiting)];
+    let mut waiting = [0u8; memory::WAITING_ROOM];
+    let waiting = memory.copied(Buffer::Waiting, &mut waiting);
     let queued = held(memory).transmit(
         &said[end..],
         wire::get_u64(said, 0),
