@@ -30,8 +30,8 @@ fn ledger_at(s: &[u8], at: usize) -> Ledger
     requires { at + ledger_size ≤ length s.now }
 {
     Ledger {
-        fund: wire::get_u64(s, at),
-        deposits: wire::get_u64(s, at + 8),
+        fund: wire::read::<u64>(s, at),
+        deposits: wire::read::<u64>(s, at + 8),
         accounts: accounts_at(s, at + 16),
     }
 }
@@ -39,8 +39,8 @@ fn ledger_at(s: &[u8], at: usize) -> Ledger
 fn put_ledger(s: &mut [u8], at: usize, ledger: Ledger)
     requires { at + ledger_size ≤ length s.old }
 {
-    wire::put_u64(s, at, ledger.fund);
-    wire::put_u64(s, at + 8, ledger.deposits);
+    wire::write(s, at, ledger.fund);
+    wire::write(s, at + 8, ledger.deposits);
     let accounts = ledger.accounts;
     put_accounts(s, at + 16, accounts);
 }
@@ -76,24 +76,24 @@ fn account_at(s: &[u8], at: usize) -> Account
     requires { at + account_size ≤ length s.now }
 {
     Account {
-        balance: wire::get_u64(s, at),
-        paid: wire::get_u64(s, at + 8),
+        balance: wire::read::<u64>(s, at),
+        paid: wire::read::<u64>(s, at + 8),
     }
 }
 
 fn put_account(s: &mut [u8], at: usize, account: Account)
     requires { at + account_size ≤ length s.old }
 {
-    wire::put_u64(s, at, account.balance);
-    wire::put_u64(s, at + 8, account.paid);
+    wire::write(s, at, account.balance);
+    wire::write(s, at + 8, account.paid);
 }
 
 pub fn terms_at(s: &[u8], at: usize) -> Terms
     requires { at + terms_size ≤ length s.now }
 {
     Terms {
-        observation_fee: wire::get_u64(s, at),
-        sending_fee: wire::get_u64(s, at + 8),
+        observation_fee: wire::read::<u64>(s, at),
+        sending_fee: wire::read::<u64>(s, at + 8),
         n: s[at + 16],
         f: s[at + 17],
     }
@@ -102,8 +102,8 @@ pub fn terms_at(s: &[u8], at: usize) -> Terms
 fn put_terms(s: &mut [u8], at: usize, terms: Terms)
     requires { at + terms_size ≤ length s.old }
 {
-    wire::put_u64(s, at, terms.observation_fee);
-    wire::put_u64(s, at + 8, terms.sending_fee);
-    wire::put_u8(s, at + 16, terms.n);
-    wire::put_u8(s, at + 17, terms.f);
+    wire::write(s, at, terms.observation_fee);
+    wire::write(s, at + 8, terms.sending_fee);
+    wire::write(s, at + 16, terms.n);
+    wire::write(s, at + 17, terms.f);
 }

@@ -13,8 +13,8 @@ pub fn pace_at(s: &[u8], at: usize) -> Pace
 {
     let flags = at + 8 + 4 * Config::MEMBERS;
     Pace {
-        epoch: wire::get_u32(s, at),
-        highest: wire::get_u32(s, at + 4),
+        epoch: wire::read::<u32>(s, at),
+        highest: wire::read::<u32>(s, at + 4),
         heard: heard_at(s, at + 8),
         started: s[flags],
         progress: s[flags + 1],
@@ -26,13 +26,13 @@ pub fn put_pace(s: &mut [u8], at: usize, pace: Pace)
     requires { at + pace_size ≤ length s.old }
 {
     let flags = at + 8 + 4 * Config::MEMBERS;
-    wire::put_u32(s, at, pace.epoch);
-    wire::put_u32(s, at + 4, pace.highest);
+    wire::write(s, at, pace.epoch);
+    wire::write(s, at + 4, pace.highest);
     let heard = pace.heard;
     put_heard(s, at + 8, heard);
-    wire::put_u8(s, flags, pace.started);
-    wire::put_u8(s, flags + 1, pace.progress);
-    wire::put_u8(s, flags + 2, pace.resend);
+    wire::write(s, flags, pace.started);
+    wire::write(s, flags + 1, pace.progress);
+    wire::write(s, flags + 2, pace.resend);
 }
 
 fn heard_at(s: &[u8], at: usize) -> [u32; Config::MEMBERS]
@@ -41,7 +41,7 @@ fn heard_at(s: &[u8], at: usize) -> [u32; Config::MEMBERS]
     let mut heard = [0u32; Config::MEMBERS];
     let mut i: usize = 0;
     while i < Config::MEMBERS {
-        heard[i] = wire::get_u32(s, at + 4 * i);
+        heard[i] = wire::read::<u32>(s, at + 4 * i);
         i += 1;
     }
     heard
@@ -52,7 +52,7 @@ fn put_heard(s: &mut [u8], at: usize, heard: [u32; Config::MEMBERS])
 {
     let mut i: usize = 0;
     while i < Config::MEMBERS {
-        wire::put_u32(s, at + 4 * i, heard[i]);
+        wire::write(s, at + 4 * i, heard[i]);
         i += 1;
     }
 }
@@ -73,11 +73,11 @@ pub fn follower_at(s: &[u8], at: usize) -> Follower
 pub fn put_follower(s: &mut [u8], at: usize, follower: Follower)
     requires { at + follower_size ≤ length s.old }
 {
-    wire::put_u8(s, at, follower.live);
-    wire::put_u8(s, at + 1, follower.round);
-    wire::put_u8(s, at + 2, follower.signed);
-    wire::put_u8(s, at + 3, follower.completed);
-    wire::put_u8(s, at + 4, follower.kept);
+    wire::write(s, at, follower.live);
+    wire::write(s, at + 1, follower.round);
+    wire::write(s, at + 2, follower.signed);
+    wire::write(s, at + 3, follower.completed);
+    wire::write(s, at + 4, follower.kept);
     let marks = follower.marks;
     put_bytes(s, at + 5, &marks);
 }
@@ -111,10 +111,10 @@ pub fn put_leader(s: &mut [u8], at: usize, leader: Leader)
     put_bytes(s, observed, &flags);
     let flags = leader.reported;
     put_bytes(s, reported, &flags);
-    wire::put_u8(s, phase, leader.phase);
-    wire::put_u8(s, phase + 1, leader.round);
-    wire::put_u8(s, phase + 2, leader.t_round);
-    wire::put_u8(s, phase + 3, leader.t_grace);
+    wire::write(s, phase, leader.phase);
+    wire::write(s, phase + 1, leader.round);
+    wire::write(s, phase + 2, leader.t_round);
+    wire::write(s, phase + 3, leader.t_grace);
 }
 
 fn values_at(s: &[u8], at: usize) -> [i64; Config::MEMBERS]
@@ -123,7 +123,7 @@ fn values_at(s: &[u8], at: usize) -> [i64; Config::MEMBERS]
     let mut values = [0i64; Config::MEMBERS];
     let mut i: usize = 0;
     while i < Config::MEMBERS {
-        values[i] = wire::get_i64(s, at + 8 * i);
+        values[i] = wire::read::<i64>(s, at + 8 * i);
         i += 1;
     }
     values
@@ -134,7 +134,7 @@ fn put_values(s: &mut [u8], at: usize, values: [i64; Config::MEMBERS])
 {
     let mut i: usize = 0;
     while i < Config::MEMBERS {
-        wire::put_i64(s, at + 8 * i, values[i]);
+        wire::write(s, at + 8 * i, values[i]);
         i += 1;
     }
 }

@@ -34,8 +34,8 @@ fn accepted_at(s: &[u8], at: usize) -> Accepted
     requires { at + accepted_size ≤ length s.now }
 {
     Accepted {
-        median: wire::get_i64(s, at),
-        epoch: wire::get_u32(s, at + 8),
+        median: wire::read::<i64>(s, at),
+        epoch: wire::read::<u32>(s, at + 8),
         round: s[at + 12],
     }
 }
@@ -43,9 +43,9 @@ fn accepted_at(s: &[u8], at: usize) -> Accepted
 fn put_accepted(s: &mut [u8], at: usize, accepted: Accepted)
     requires { at + accepted_size ≤ length s.old }
 {
-    wire::put_i64(s, at, accepted.median);
-    wire::put_u32(s, at + 8, accepted.epoch);
-    wire::put_u8(s, at + 12, accepted.round);
+    wire::write(s, at, accepted.median);
+    wire::write(s, at + 8, accepted.epoch);
+    wire::write(s, at + 12, accepted.round);
 }
 
 fn times_at(s: &[u8], at: usize) -> [u64; Config::SLOTS]
@@ -54,7 +54,7 @@ fn times_at(s: &[u8], at: usize) -> [u64; Config::SLOTS]
     let mut times = [0u64; Config::SLOTS];
     let mut k: usize = 0;
     while k < Config::SLOTS {
-        times[k] = wire::get_u64(s, at + 8 * k);
+        times[k] = wire::read::<u64>(s, at + 8 * k);
         k += 1;
     }
     times
@@ -65,7 +65,7 @@ fn put_times(s: &mut [u8], at: usize, times: [u64; Config::SLOTS])
 {
     let mut k: usize = 0;
     while k < Config::SLOTS {
-        wire::put_u64(s, at + 8 * k, times[k]);
+        wire::write(s, at + 8 * k, times[k]);
         k += 1;
     }
 }

@@ -129,7 +129,7 @@ fn put_newepoch(out: &mut [u8], epoch: u32) -> usize
     requires { body_length 1 0 0 ≤ length out.old }
     ensures { (out.new ≡ over out.old 0 (body_bytes (new_epoch epoch))) × (result ≡ body_length 1 0 0) }
 {
-    wire::put_u32(out, 0, epoch);
+    wire::write(out, 0, epoch);
     frame::body_length(1, 0, 0)
 }
 
@@ -137,7 +137,7 @@ fn put_head(out: &mut [u8], epoch: u32, round: u8) -> usize
     requires { body_length 2 0 0 ≤ length out.old }
     ensures { (out.new ≡ over out.old 0 (head_bytes epoch round)) × (result ≡ body_length 2 0 0) }
 {
-    wire::put_u32(out, 0, epoch);
+    wire::write(out, 0, epoch);
     out[4] = round;
     frame::body_length(2, 0, 0)
 }
@@ -147,7 +147,7 @@ fn put_observe(out: &mut [u8], epoch: u32, round: u8, value: i64) -> usize
     ensures { (out.new ≡ over out.old 0 (body_bytes (observe epoch round value own_signature))) × (result ≡ body_length 3 0 0) }
 {
     let p = put_head(out, epoch, round);
-    wire::put_i64(out, p, value);
+    wire::write(out, p, value);
     wire::zero(out, p + 8, Config::SIGNATURE);
     frame::body_length(3, 0, 0)
 }
@@ -296,7 +296,7 @@ fn put_observation(out: &mut [u8], at: usize, j: u8, values: &[i64])
 {
     let place = j as usize - 1;
     out[at] = j;
-    wire::put_i64(out, at + 1, values[place]);
+    wire::write(out, at + 1, values[place]);
 }
 
 // Member j's signature.
@@ -315,8 +315,8 @@ fn put_trailer(out: &mut [u8], n: usize, config: Config, kind: u8) -> usize
 {
     out[n] = kind;
     out[n + 1] = config.own;
-    wire::put_u16(out, n + 2, frame::version(config.n));
-    wire::put_u32(out, n + 4, n as u32);
-    wire::put_u64(out, n + 8, config.number);
+    wire::write(out, n + 2, frame::version(config.n));
+    wire::write(out, n + 4, n as u32);
+    wire::write(out, n + 8, config.number);
     n + frame::TRAILER
 }

@@ -56,8 +56,8 @@ fn submit<R: Print>(rt: &R, bytes: &mut [u8], said: &[u8]) -> io::Result<bool>
     let submitted = contract.submit(
         &said[SUBMISSION..],
         said[0],
-        wire::get_u64(said, 1),
-        wire::get_u64(said, 9),
+        wire::read::<u64>(said, 1),
+        wire::read::<u64>(said, 9),
     );
     let answer = submitted.answer;
     lines::begin(rt, b'B', answer)?;
@@ -72,7 +72,7 @@ fn deposit<R: Print>(rt: &R, bytes: &mut [u8], said: &[u8]) -> io::Result<bool>
         return Ok(false);
     }
     let contract = image::contract_at(&bytes[..], memory::CONTRACT_AT);
-    let deposited = contract.deposit(wire::get_u64(said, 0));
+    let deposited = contract.deposit(wire::read::<u64>(said, 0));
     let answer = deposited.answer;
     lines::begin(rt, b'P', answer)?;
     settle(rt, bytes, deposited.contract)?;

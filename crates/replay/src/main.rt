@@ -111,7 +111,7 @@ fn letter_in(head: &[u8; HEAD]) -> u8 {
 }
 
 fn length_in(head: &[u8; HEAD]) -> usize {
-    wire::get_u32(head, 1) as usize
+    wire::read::<u32>(head, 1) as usize
 }
 
 // By the letter: a buffer is set, an image is set, or a call is made.

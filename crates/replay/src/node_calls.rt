@@ -71,8 +71,8 @@ fn restore<R: Print>(rt: &R, bytes: &mut [u8], said: &[u8]) -> io::Result<bool>
     }
     let config = image::config_at(said, 0);
     let saved = Saved {
-        epoch: wire::get_u32(said, image::CONFIG),
-        highest: wire::get_u32(said, image::CONFIG + 4),
+        epoch: wire::read::<u32>(said, image::CONFIG),
+        highest: wire::read::<u32>(said, image::CONFIG + 4),
     };
     made(rt, bytes, b'R', Node::restore(config, saved))?;
     Ok(true)
@@ -140,9 +140,9 @@ fn started(bytes: &[u8], lengths: Lengths, said: &[u8], outbox: &mut [u8]) -> Ou
     let signatures = memory::SIGNATURES_AT + lengths.signatures;
     let node = node_image::node_at(bytes, memory::NODE_AT);
     node.start(
-        wire::get_u64(said, 0),
+        wire::read::<u64>(said, 0),
         outbox,
-        wire::get_u64(said, 8) as usize,
+        wire::read::<u64>(said, 8) as usize,
         &bytes[memory::KEPT_AT..kept],
         &bytes[memory::SIGNATURES_AT..signatures],
     )
@@ -232,11 +232,11 @@ fn arrival_in(said: &[u8]) -> Arrival
 {
     Arrival {
         link: said[0],
-        time: wire::get_u64(said, 1),
-        observation: wire::get_i64(said, 9),
+        time: wire::read::<u64>(said, 1),
+        observation: wire::read::<i64>(said, 9),
         commit: image::commit_at(said, 17),
-        bits: wire::get_u64(said, 38),
-        at: wire::get_u64(said, 46) as usize,
+        bits: wire::read::<u64>(said, 38),
+        at: wire::read::<u64>(said, 46) as usize,
     }
 }
 
@@ -280,9 +280,9 @@ fn unarmed(bytes: &[u8], lengths: Lengths, said: &[u8]) -> Outcome
     let signatures = memory::SIGNATURES_AT + lengths.signatures;
     let node = node_image::node_at(bytes, memory::NODE_AT);
     node.unarmed(
-        wire::get_u64(said, 1),
+        wire::read::<u64>(said, 1),
         &bytes[memory::OUTBOX_AT..outbox],
-        wire::get_u64(said, 9) as usize,
+        wire::read::<u64>(said, 9) as usize,
         &bytes[memory::KEPT_AT..kept],
         &bytes[memory::SIGNATURES_AT..signatures],
     )
@@ -345,9 +345,9 @@ fn timed(
     let node = node_image::node_at(bytes, memory::NODE_AT);
     node.timer(
         fired,
-        wire::get_u64(said, 1),
+        wire::read::<u64>(said, 1),
         outbox,
-        wire::get_u64(said, 9) as usize,
+        wire::read::<u64>(said, 9) as usize,
         &bytes[memory::KEPT_AT..end],
         signatures,
     )

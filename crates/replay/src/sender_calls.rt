@@ -99,7 +99,7 @@ fn transmitted(bytes: &[u8], said: &[u8], end: usize, waiting: &mut [u8]) -> Que
     let sender = image::sender_at(bytes, memory::SENDER_AT);
     sender.transmit(
         &said[end..],
-        wire::get_u64(said, 0),
+        wire::read::<u64>(said, 0),
         image::commit_at(said, 8),
         &said[TRANSMISSION..end],
         waiting,
@@ -134,7 +134,7 @@ fn timed_out(bytes: &[u8], lengths: Lengths, said: &[u8]) -> Released
     let end = memory::WAITING_AT + lengths.waiting;
     let sender = image::sender_at(bytes, memory::SENDER_AT);
     sender.timeout(
-        wire::get_u64(said, 0),
+        wire::read::<u64>(said, 0),
         image::commit_at(said, 8),
         &bytes[memory::WAITING_AT..end],
     )

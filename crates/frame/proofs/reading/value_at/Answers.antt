@@ -15,8 +15,8 @@ returns c =
     let b = c.args.body.now in
     let i = c.args.i in
     let w = c.args.stride in
-    to_z-of_z w64 _ (record { sfits = c.get_i64.type_inv })
-    ∙ c.get_i64.ensures
+    to_z-of_z w64 _ (record { sfits = c.read.type_inv })
+    ∙ c.read.ensures
     ∙ sym
     (ap (λ (o : Observation). o.value) (entry_at observation_at w (count_in b) list_place b i no_observation c.requires.known)
     ∙ ap (λ (l : List ℕ). to_z w64 (be_number l)) (part_of_part b (list_place + i * w) w 1 8 (omega arith)))
