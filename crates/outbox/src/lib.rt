@@ -217,12 +217,9 @@ fn put_observations(out: &mut [u8], at: usize, n: u8, order: &[u8], values: &[i6
 {
     let stride = frame::stride(6);
     let mut p = at;
-    let mut i: usize = 0;
-    while i < order.len() {
-        let j = order[i];
-        put_observation(out, p, j, values);
+    for j in order {
+        put_observation(out, p, *j, values);
         p += stride;
-        i += 1;
     }
     p
 }
@@ -241,13 +238,10 @@ fn put_signed(
 {
     let stride = frame::stride(4);
     let mut p = at;
-    let mut i: usize = 0;
-    while i < order.len() {
-        let j = order[i];
-        put_observation(out, p, j, values);
-        put_signature(out, p + frame::stride(6), j, signatures);
+    for j in order {
+        put_observation(out, p, *j, values);
+        put_signature(out, p + frame::stride(6), *j, signatures);
         p += stride;
-        i += 1;
     }
     p
 }
@@ -259,13 +253,10 @@ fn put_signers(out: &mut [u8], at: usize, n: u8, signers: &[u8], signatures: &[u
 {
     let stride = frame::signer_stride();
     let mut p = at;
-    let mut i: usize = 0;
-    while i < signers.len() {
-        let j = signers[i];
-        out[p] = j;
-        put_signature(out, p + 1, j, signatures);
+    for j in signers {
+        out[p] = *j;
+        put_signature(out, p + 1, *j, signatures);
         p += stride;
-        i += 1;
     }
     p
 }
@@ -279,11 +270,9 @@ fn put_said(out: &mut [u8], body: &[u8]) -> usize
     let m = frame::count_of(body);
     let stride = frame::stride(5);
     let mut p = frame::LIST;
-    let mut i: usize = 0;
-    while i < m {
+    for i in 0..m {
         wire::copy(out, p, body, frame::LIST + i * frame::stride(4), stride);
         p += stride;
-        i += 1;
     }
     p
 }

@@ -6,9 +6,6 @@ use Rattle.outbox.specs.Written.{observed, observations}
 use Rattle.outbox.proofs.Runs.{Run}
 use Rattle.outbox.proofs.put_observations.Given as goal
 
-abbrev pub invariant-loop-i : goal.invariant-loop-i
-invariant-loop-i l =
-    Run observation_bytes (shape_of 6).entry (observed l.values 0) (observations l.order l.values) (length l.order) l.at l.initial.out l.out l.p l.i
-
-abbrev pub decreases-loop-i : goal.decreases-loop-i
-decreases-loop-i l = length l.order - l.i
+abbrev pub invariant-loop-j : goal.invariant-loop-j
+invariant-loop-j l =
+    Run observation_bytes (shape_of 6).entry (observed l.values 0) (observations l.order l.values) (length l.order) l.at l.initial.out l.out l.p l.j-index

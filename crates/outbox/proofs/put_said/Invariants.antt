@@ -11,6 +11,3 @@ use Rattle.outbox.proofs.put_said.Given as goal
 abbrev pub invariant-loop-i : goal.invariant-loop-i
 invariant-loop-i l =
     Run observation_bytes (shape_of 5).entry no_observation (observations_in (shape_of 4).entry l.body) (count_in l.body) list_place l.initial.out l.out l.p l.i
-
-abbrev pub decreases-loop-i : goal.decreases-loop-i
-decreases-loop-i l = l.m - l.i

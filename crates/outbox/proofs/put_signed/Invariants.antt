@@ -7,9 +7,6 @@ use Rattle.outbox.proofs.Runs.{Run}
 use Rattle.outbox.proofs.Frames.{signed}
 use Rattle.outbox.proofs.put_signed.Given as goal
 
-abbrev pub invariant-loop-i : goal.invariant-loop-i
-invariant-loop-i l =
-    Run signed_bytes (shape_of 4).entry (signed l.values l.signatures 0) (signed_observations l.order l.values l.signatures) (length l.order) l.at l.initial.out l.out l.p l.i
-
-abbrev pub decreases-loop-i : goal.decreases-loop-i
-decreases-loop-i l = length l.order - l.i
+abbrev pub invariant-loop-j : goal.invariant-loop-j
+invariant-loop-j l =
+    Run signed_bytes (shape_of 4).entry (signed l.values l.signatures 0) (signed_observations l.order l.values l.signatures) (length l.order) l.at l.initial.out l.out l.p l.j-index
