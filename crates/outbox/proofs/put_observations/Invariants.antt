@@ -8,4 +8,4 @@ use Rattle.outbox.proofs.put_observations.Given as goal
 
 abbrev pub invariant-loop-j : goal.invariant-loop-j
 invariant-loop-j l =
-    Run observation_bytes (shape_of 6).entry (observed l.values 0) (observations l.order l.values) (length l.order) l.at l.initial.out l.out l.p l.j-index
+    Run observation_bytes (shape_of 6).entry (observed l.tables.values.now 0) (observations l.order l.tables.values.now) (length l.order) l.at l.initial.out l.out l.p l.j-index

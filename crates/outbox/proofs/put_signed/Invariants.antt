@@ -9,4 +9,4 @@ use Rattle.outbox.proofs.put_signed.Given as goal
 
 abbrev pub invariant-loop-j : goal.invariant-loop-j
 invariant-loop-j l =
-    Run signed_bytes (shape_of 4).entry (signed l.values l.signatures 0) (signed_observations l.order l.values l.signatures) (length l.order) l.at l.initial.out l.out l.p l.j-index
+    Run signed_bytes (shape_of 4).entry (signed l.tables.values.now l.tables.signatures.now 0) (signed_observations l.order l.tables.values.now l.tables.signatures.now) (length l.order) l.at l.initial.out l.out l.p l.j-index

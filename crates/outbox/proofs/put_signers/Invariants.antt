@@ -9,4 +9,4 @@ use Rattle.outbox.proofs.put_signers.Given as goal
 
 abbrev pub invariant-loop-j : goal.invariant-loop-j
 invariant-loop-j l =
-    Run signer_bytes (shape_of 6).signer (signer l.signatures 0) (signers_of l.signers l.signatures) (length l.signers) l.at l.initial.out l.out l.p l.j-index
+    Run signer_bytes (shape_of 6).signer (signer l.tables.signatures.now 0) (signers_of l.signers l.tables.signatures.now) (length l.signers) l.at l.initial.out l.out l.p l.j-index
