@@ -253,10 +253,9 @@ fn put_said(out: &mut [u8], body: &[u8]) -> usize
     requires { (list_place + count_in body.now * (shape_of 5).entry ≤ length out.old) × (length body.now ≡ body_length 4 (count_in body.now) 0) }
     ensures { (out.new ≡ over out.old list_place (flat observation_bytes (observations_in (shape_of 4).entry body.now))) × (result ≡ list_place + count_in body.now * (shape_of 5).entry) }
 {
-    let m = frame::count_of(body);
     let stride = frame::stride(5);
     let mut p = frame::LIST;
-    for i in 0..m {
+    for i in 0..frame::count_of(body) {
         wire::copy(out, p, body, frame::LIST + i * frame::stride(4), stride);
         p += stride;
     }
