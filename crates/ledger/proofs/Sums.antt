@@ -5,7 +5,7 @@ use Prim.Native.Nat.{ℕ, zero, suc, ◌+◌, ◌<◌}
 use native.Mathlib.Omega.{arith}
 use lib.ListN.{length, set}
 use Rattle.ledger.specs.declared.Account.{Account}
-use Rattle.ledger.specs.Ledger.{no_money, credited, account_at, balances, paid_out}
+use Rattle.ledger.specs.Ledger.{credited, account_at, balances, paid_out}
 
 -- with another account at a place, each sum has the new number for the old
 pub sums_set : (l : List Account) (k : ℕ) (a : Account) → k < length l → (balances (set l k a) + (account_at l k).balance ≡ balances l + a.balance) × (paid_out (set l k a) + (account_at l k).paid ≡ paid_out l + a.paid)

@@ -1,5 +1,5 @@
 -- `outbox::put_observations` meets its contract: the loop has written a run of the entries. A turn lays one more behind them (`run_next`).
-use Rattle.std.proofs.Common.{length, ◌-◌}
+use Rattle.std.proofs.Common.{length}
 use Rattle.frame.specs.Table.{shape_of}
 use Rattle.frame.specs.Encode.{observation_bytes}
 use Rattle.outbox.specs.Written.{observed, observations}

@@ -1,6 +1,5 @@
 -- `outbox::put_said` meets its contract: the loop has written a run of the entries. A turn copies the first bytes of an entry, which are those of its
 -- observation (`said_copied`).
-use Rattle.std.proofs.Common.{◌-◌}
 use Rattle.frame.specs.Message.{no_observation}
 use Rattle.frame.specs.Table.{shape_of}
 use Rattle.frame.specs.Encode.{observation_bytes}

@@ -1,5 +1,5 @@
 -- `outbox::put_signed` meets its contract: the loop has written a run of the entries. A turn lays an observation and its signature behind those that stand.
-use Rattle.std.proofs.Common.{length, ◌-◌}
+use Rattle.std.proofs.Common.{length}
 use Rattle.frame.specs.Table.{shape_of}
 use Rattle.frame.specs.Encode.{signed_bytes}
 use Rattle.outbox.specs.Written.{signed_observations}

@@ -1,5 +1,5 @@
 -- `outbox::put_signers` meets its contract: the loop has written a run of the entries. A turn stores a number and lays the signature behind it.
-use Rattle.std.proofs.Common.{length, ◌-◌}
+use Rattle.std.proofs.Common.{length}
 use Rattle.frame.specs.Table.{shape_of}
 use Rattle.frame.specs.Encode.{signer_bytes}
 use Rattle.outbox.specs.Written.{signers_of}
