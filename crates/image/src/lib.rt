@@ -3,16 +3,17 @@
 #![tactic(auto)]
 
 mod contract_image;
+mod entries;
 pub mod memory;
 mod node_parts;
 mod sender_image;
 
 ghost use Rattle.std.specs.Prelude.{◌+◌, ◌≤◌, length};
-ghost use Rattle.config.specs.Limits.{most_stages};
 ghost use Rattle.image.specs.Image.{config_size, commit_size};
 
 use config::{Commit, Config};
 pub use contract_image::{contract_at, put_contract, terms_at};
+use entries::{bytes_at, put_bytes};
 pub use node_parts::{follower_at, leader_at, pace_at, put_follower, put_leader, put_pace};
 pub use sender_image::{put_sender, sender_at};
 
@@ -56,16 +57,8 @@ pub fn config_at(s: &[u8], at: usize) -> Config
         own: s[at + 30],
         r_max: s[at + 31],
         stages: s[at + 32],
-        schedule: schedule_at(s, at + 33),
+        schedule: bytes_at(s, at + 33),
     }
-}
-
-fn schedule_at(s: &[u8], at: usize) -> [u8; Config::STAGES]
-    requires { at + most_stages ≤ length s.now }
-{
-    let mut schedule = [0u8; Config::STAGES];
-    wire::copy(&mut schedule, 0, s, at, Config::STAGES);
-    schedule
 }
 
 pub fn put_config(s: &mut [u8], at: usize, config: Config)
@@ -75,26 +68,12 @@ pub fn put_config(s: &mut [u8], at: usize, config: Config)
     wire::write(s, at + 8, config.delta_c);
     wire::write(s, at + 16, config.delta_stage);
     wire::write(s, at + 24, config.alpha);
-    put_counts(s, at + 28, config);
-    let schedule = config.schedule;
-    put_schedule(s, at + 33, &schedule);
-}
-
-// The numbers of one byte.
-fn put_counts(s: &mut [u8], at: usize, config: Config)
-    requires { at + 5 ≤ length s.old }
-{
-    wire::write(s, at, config.n);
-    wire::write(s, at + 1, config.f);
-    wire::write(s, at + 2, config.own);
-    wire::write(s, at + 3, config.r_max);
-    wire::write(s, at + 4, config.stages);
-}
-
-fn put_schedule(s: &mut [u8], at: usize, schedule: &[u8; Config::STAGES])
-    requires { at + most_stages ≤ length s.old }
-{
-    wire::copy(s, at, schedule, 0, Config::STAGES);
+    put_bytes(
+        s,
+        at + 28,
+        &[config.n, config.f, config.own, config.r_max, config.stages],
+    );
+    put_bytes(s, at + 33, &config.schedule);
 }
 
 pub fn commit_at(s: &[u8], at: usize) -> Commit
