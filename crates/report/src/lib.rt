@@ -88,14 +88,12 @@ fn not_falling(body: &[u8], stride: usize) -> bool
     ensures { result ≡ not_falling (values_of (observations_in stride body.now)) }
 {
     let m = frame::count_of(body);
-    let mut i: usize = 1;
-    while i < m {
+    for i in 1..m {
         let value = frame::value_at(body, stride, i);
         let before = frame::value_at(body, stride, i - 1);
-        if below(value, before) {
+        if value < before {
             return false;
         }
-        i += 1;
     }
     true
 }
@@ -161,7 +159,7 @@ pub fn median(body: &[u8], stride: usize) -> i64
 pub fn newer(epoch: u32, round: u8, than_epoch: u32, than_round: u8) -> bool
     ensures { result ≡ newer epoch round than_epoch than_round }
 {
-    (than_epoch < epoch) | ((epoch == than_epoch) & (than_round < round))
+    (than_epoch, than_round) < (epoch, round)
 }
 
 // Whether the body that a buffer of full size keeps is in range.
@@ -179,8 +177,8 @@ pub fn keep(buffer: &mut [u8], body: &[u8])
     ensures { buffer.new ≡ keeping buffer.old body.now }
 {
     let n = body.len();
-    wire::copy(buffer, 0, body, 0, n);
-    wire::zero(buffer, n, Config::KEPT - n);
+    buffer[..n].copy_from_slice(body);
+    buffer[n..Config::KEPT].fill(0);
 }
 
 // Clears a buffer.
@@ -188,7 +186,7 @@ pub fn clear(buffer: &mut [u8])
     requires { kept_size ≤ length buffer.old }
     ensures { buffer.new ≡ cleared buffer.old }
 {
-    wire::zero(buffer, 0, Config::KEPT);
+    buffer[..Config::KEPT].fill(0);
 }
 
 // The `len` bytes from `start` on, where they lie within the slice; else none.
@@ -196,12 +194,8 @@ pub fn clear(buffer: &mut [u8])
 pub fn part_of(s: &[u8], start: usize, len: usize) -> &[u8]
     ensures { result.now ≡ part_of s.now start len }
 {
-    if s.len() < start {
-        return &s[..0];
+    match start.checked_add(len) {
+        Some(end) if end <= s.len() => &s[start..end],
+        _ => &[],
     }
-    if s.len() - start < len {
-        return &s[..0];
-    }
-    let end = start + len;
-    &s[start..end]
 }
