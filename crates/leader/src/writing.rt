@@ -9,7 +9,7 @@ use config::Config;
 
 impl Leader {
     // Writes REPORT-REQ with the list.
-    #[tactic(auto, using(crate::proofs::Lines::holds_within, crate::proofs::Marked::order_members))]
+    #[tactic(auto, using(crate::proofs::Marked::order_members, crate::proofs::Marked::order_most))]
     pub fn write_request(
         self,
         config: Config,
@@ -24,22 +24,20 @@ impl Leader {
         let values = self.values;
         let marks = self.observed;
         let line = listing::order(config.n, &marks, &values);
-        let list = line.members;
-        let end = line.len;
         outbox::write_report_req(
             outbox,
             at,
             config,
             epoch,
             self.round,
-            &list[..end],
+            line.as_slice(),
             &values,
             signatures,
         )
     }
 
     // Writes FINAL with the list and the lowest f + 1 signers.
-    #[tactic(auto, using(crate::proofs::Lines::holds_within, crate::proofs::Marked::order_members, crate::proofs::Marked::lowest_members))]
+    #[tactic(auto, using(crate::proofs::Marked::order_members, crate::proofs::Marked::order_most, crate::proofs::Marked::lowest_members, crate::proofs::Marked::lowest_most))]
     pub fn write_final(
         self,
         config: Config,
@@ -55,11 +53,7 @@ impl Leader {
         let observed = self.observed;
         let reported = self.reported;
         let line = listing::order(config.n, &observed, &values);
-        let list = line.members;
-        let end = line.len;
         let signed = listing::lowest_signers(config.n, config.f, &reported);
-        let signers = signed.members;
-        let last = signed.len;
         let from = Config::REPORT_SIGNATURES;
         outbox::write_final(
             outbox,
@@ -67,9 +61,9 @@ impl Leader {
             config,
             epoch,
             self.round,
-            &list[..end],
+            line.as_slice(),
             &values,
-            &signers[..last],
+            signed.as_slice(),
             &signatures[from..],
         )
     }
