@@ -20,10 +20,8 @@ impl Leader {
         requires { (n ≤ members) × (body_answer n 5 body.now ≡ Done) }
         ensures { result ≡ same_list (observations_in (shape_of 5).entry body.now) (list_of n self) }
     {
-        let values = self.values;
-        let observed = self.observed;
-        let line = listing::order(n, &observed, &values);
-        same_entries(body, line.as_slice(), &values)
+        let line = listing::order(n, &self.observed, &self.values);
+        same_entries(body, line.as_slice(), &self.values)
     }
 }
 

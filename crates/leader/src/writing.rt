@@ -21,9 +21,7 @@ impl Leader {
         requires { (config.n ≤ members) × (signatures_size ≤ length signatures.now) × Fits 4 (length (order config.n self.observed self.values)) 0 outbox.old at }
         ensures { Wrote config (request_of config.n epoch self signatures.now) outbox.old at outbox.new result }
     {
-        let values = self.values;
-        let marks = self.observed;
-        let line = listing::order(config.n, &marks, &values);
+        let line = listing::order(config.n, &self.observed, &self.values);
         outbox::write_report_req(
             outbox,
             at,
@@ -31,7 +29,7 @@ impl Leader {
             epoch,
             self.round,
             line.as_slice(),
-            &values,
+            &self.values,
             signatures,
         )
     }
@@ -49,11 +47,8 @@ impl Leader {
         requires { (config.n ≤ members) × (signatures_size ≤ length signatures.now) × Fits 6 (length (order config.n self.observed self.values)) (length (lowest_signers config.n config.f self)) outbox.old at }
         ensures { Wrote config (final_of config.n config.f epoch self signatures.now) outbox.old at outbox.new result }
     {
-        let values = self.values;
-        let observed = self.observed;
-        let reported = self.reported;
-        let line = listing::order(config.n, &observed, &values);
-        let signed = listing::lowest_signers(config.n, config.f, &reported);
+        let line = listing::order(config.n, &self.observed, &self.values);
+        let signed = listing::lowest_signers(config.n, config.f, &self.reported);
         let from = Config::REPORT_SIGNATURES;
         outbox::write_final(
             outbox,
@@ -62,7 +57,7 @@ impl Leader {
             epoch,
             self.round,
             line.as_slice(),
-            &values,
+            &self.values,
             signed.as_slice(),
             &signatures[from..],
         )
