@@ -47,8 +47,8 @@ impl Leader {
         requires { (config.n ≤ members) × (signatures_size ≤ length signatures.now) × Fits 6 (length (order config.n self.observed self.values)) (length (lowest_signers config.n config.f self)) outbox.old at }
         ensures { Wrote config (final_of config.n config.f epoch self signatures.now) outbox.old at outbox.new result }
     {
-        let line = listing::order(config.n, &self.observed, &self.values);
-        let signed = listing::lowest_signers(config.n, config.f, &self.reported);
+        let list = listing::order(config.n, &self.observed, &self.values);
+        let signers = listing::lowest_signers(config.n, config.f, &self.reported);
         let from = Config::REPORT_SIGNATURES;
         outbox::write_final(
             outbox,
@@ -56,9 +56,9 @@ impl Leader {
             config,
             epoch,
             self.round,
-            line.as_slice(),
+            list.as_slice(),
             &self.values,
-            signed.as_slice(),
+            signers.as_slice(),
             &signatures[from..],
         )
     }
