@@ -89,7 +89,7 @@ const TABLE: [Shape; 7] = [
 pub const TRAILER: usize = 16;
 
 // How long the frame of a NEWEPOCH is.
-pub const NEWEPOCH_FRAME: usize = TABLE[0].base + TRAILER;
+pub const NEWEPOCH_FRAME: usize = TABLE[Kind::NewEpoch as usize - 1].base + TRAILER;
 
 // Where the list of a body begins, behind epoch, round and m.
 pub const LIST: usize = 6;
