@@ -12,6 +12,7 @@ ghost use Rattle.leader.specs.Listed.{list_of};
 ghost use Rattle.leader.specs.Takes.{same_entry, same_list};
 
 use crate::{Leader, listing};
+use frame::Kind;
 
 impl Leader {
     // Whether the list of a REPORT is the leader's own.
@@ -35,7 +36,7 @@ fn same_entries(body: &[u8], own: &[u8], values: &[i64]) -> bool
     if m != own.len() {
         return false;
     }
-    let stride = frame::stride(5);
+    let stride = frame::stride(Kind::Report);
     for (i, j) in own.iter().enumerate() {
         if !same_entry(body, stride, i, *j, listing::value_of(values, *j)) {
             return false;

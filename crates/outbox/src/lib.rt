@@ -5,12 +5,14 @@ ghost use Rattle.std.specs.Prelude.{◌≡◌, ◌+◌, ◌*◌, ◌^◌, ◌≤
 ghost use Rattle.config.specs.Limits.{signature_size};
 ghost use Rattle.wire.specs.Overlay.{over};
 ghost use Rattle.frame.specs.Message.{new_epoch, observe_req, observe, report_req, report, final, final_echo};
+ghost use Rattle.frame.specs.Kinds.{number_of};
 ghost use Rattle.frame.specs.Table.{shape_of, body_length, version_of, trailer_length};
 ghost use Rattle.frame.specs.Encode.{flat, head_bytes, observation_bytes, signed_bytes, signer_bytes, body_bytes, trailer_bytes};
 ghost use Rattle.frame.specs.Decode.{epoch_in, round_in, count_in, list_place, observations_in, signer_count_in, attested_in};
 ghost use Rattle.outbox.specs.Written.{Wrote, Fits, own_signature, signature_of, observed, observations, signed_observations, signers_of, Members, HasValues, HasSignatures};
 
 use config::Config;
+use frame::Kind;
 
 // What n members have said and signed, by member.
 #[derive(Clone, Copy)]
@@ -27,7 +29,7 @@ pub fn write_newepoch(outbox: &mut [u8], at: usize, config: Config, epoch: u32) 
     ensures { Wrote config (new_epoch epoch) outbox.old at outbox.new result }
 {
     let n = put_newepoch(&mut outbox[at..], epoch);
-    put_trailer(&mut outbox[at..], n, config, 1)
+    put_trailer(&mut outbox[at..], n, config, Kind::NewEpoch)
 }
 
 pub fn write_observe_req(
@@ -41,7 +43,7 @@ pub fn write_observe_req(
     ensures { Wrote config (observe_req epoch round) outbox.old at outbox.new result }
 {
     let n = put_head(&mut outbox[at..], epoch, round);
-    put_trailer(&mut outbox[at..], n, config, 2)
+    put_trailer(&mut outbox[at..], n, config, Kind::ObserveReq)
 }
 
 // With the node's own signature left for the host to fill.
@@ -57,7 +59,7 @@ pub fn write_observe(
     ensures { Wrote config (observe epoch round value own_signature) outbox.old at outbox.new result }
 {
     let n = put_observe(&mut outbox[at..], epoch, round, value);
-    put_trailer(&mut outbox[at..], n, config, 3)
+    put_trailer(&mut outbox[at..], n, config, Kind::Observe)
 }
 
 // The observations of the members in `order`, with their values and signatures by member.
@@ -80,7 +82,7 @@ pub fn write_report_req(
         signatures,
     };
     let n = put_report_req(&mut outbox[at..], epoch, round, order, tables);
-    put_trailer(&mut outbox[at..], n, config, 4)
+    put_trailer(&mut outbox[at..], n, config, Kind::ReportReq)
 }
 
 // The REPORT that answers a REPORT-REQ of this body, with the node's own signature left for the host to fill.
@@ -89,7 +91,7 @@ pub fn write_report(outbox: &mut [u8], at: usize, config: Config, body: &[u8]) -
     ensures { Wrote config (report (epoch_in body.now) (round_in body.now) (observations_in (shape_of 4).entry body.now) own_signature) outbox.old at outbox.new result }
 {
     let n = put_report(&mut outbox[at..], body);
-    put_trailer(&mut outbox[at..], n, config, 5)
+    put_trailer(&mut outbox[at..], n, config, Kind::Report)
 }
 
 // The observations of the members in `order`, signed by the members in `signers`.
@@ -113,7 +115,7 @@ pub fn write_final(
         signatures,
     };
     let n = put_final(&mut outbox[at..], epoch, round, order, signers, tables);
-    put_trailer(&mut outbox[at..], n, config, 6)
+    put_trailer(&mut outbox[at..], n, config, Kind::Final)
 }
 
 // The echo of a FINAL of this body.
@@ -122,7 +124,7 @@ pub fn write_final_echo(outbox: &mut [u8], at: usize, config: Config, body: &[u8
     ensures { Wrote config (final_echo (attested_in body.now)) outbox.old at outbox.new result }
 {
     let n = put_copy(&mut outbox[at..], body);
-    put_trailer(&mut outbox[at..], n, config, 7)
+    put_trailer(&mut outbox[at..], n, config, Kind::FinalEcho)
 }
 
 // ---- bodies, from the start of a slice on; each answers the body's length
@@ -133,7 +135,7 @@ fn put_newepoch(out: &mut [u8], epoch: u32) -> usize
     ensures { (out.new ≡ over out.old 0 (body_bytes (new_epoch epoch))) × (result ≡ body_length 1 0 0) }
 {
     wire::write(out, 0, epoch);
-    frame::body_length(1, 0, 0)
+    frame::body_length(Kind::NewEpoch, 0, 0)
 }
 
 fn put_head(out: &mut [u8], epoch: u32, round: u8) -> usize
@@ -142,7 +144,7 @@ fn put_head(out: &mut [u8], epoch: u32, round: u8) -> usize
 {
     wire::write(out, 0, epoch);
     out[4] = round;
-    frame::body_length(2, 0, 0)
+    frame::body_length(Kind::ObserveReq, 0, 0)
 }
 
 fn put_observe(out: &mut [u8], epoch: u32, round: u8, value: i64) -> usize
@@ -152,7 +154,7 @@ fn put_observe(out: &mut [u8], epoch: u32, round: u8, value: i64) -> usize
     let p = put_head(out, epoch, round);
     wire::write(out, p, value);
     wire::zero(out, p + 8, Config::SIGNATURE);
-    frame::body_length(3, 0, 0)
+    frame::body_length(Kind::Observe, 0, 0)
 }
 
 fn put_report_req(out: &mut [u8], epoch: u32, round: u8, order: &[u8], tables: Tables) -> usize
@@ -208,7 +210,7 @@ fn put_observations(out: &mut [u8], at: usize, order: &[u8], tables: Tables) -> 
     requires { (at + length order.now * (shape_of 6).entry ≤ length out.old) × Members tables.n order.now }
     ensures { (out.new ≡ over out.old at (flat observation_bytes (observations order.now tables.entry.values.now))) × (result ≡ at + length order.now * (shape_of 6).entry) }
 {
-    let stride = frame::stride(6);
+    let stride = frame::stride(Kind::Final);
     let mut p = at;
     for j in order {
         put_observation(out, p, *j, tables.values);
@@ -222,11 +224,11 @@ fn put_signed(out: &mut [u8], at: usize, order: &[u8], tables: Tables) -> usize
     requires { (at + length order.now * (shape_of 4).entry ≤ length out.old) × Members tables.n order.now }
     ensures { (out.new ≡ over out.old at (flat signed_bytes (signed_observations order.now tables.entry.values.now tables.entry.signatures.now))) × (result ≡ at + length order.now * (shape_of 4).entry) }
 {
-    let stride = frame::stride(4);
+    let stride = frame::stride(Kind::ReportReq);
     let mut p = at;
     for j in order {
         put_observation(out, p, *j, tables.values);
-        put_signature(out, p + frame::stride(6), *j, tables.signatures);
+        put_signature(out, p + frame::stride(Kind::Final), *j, tables.signatures);
         p += stride;
     }
     p
@@ -253,10 +255,10 @@ fn put_said(out: &mut [u8], body: &[u8]) -> usize
     requires { (list_place + count_in body.now * (shape_of 5).entry ≤ length out.old) × (length body.now ≡ body_length 4 (count_in body.now) 0) }
     ensures { (out.new ≡ over out.old list_place (flat observation_bytes (observations_in (shape_of 4).entry body.now))) × (result ≡ list_place + count_in body.now * (shape_of 5).entry) }
 {
-    let stride = frame::stride(5);
+    let stride = frame::stride(Kind::Report);
     let mut p = frame::LIST;
     for i in 0..frame::count_of(body) {
-        wire::copy(out, p, body, frame::LIST + i * frame::stride(4), stride);
+        wire::copy(out, p, body, frame::LIST + i * frame::stride(Kind::ReportReq), stride);
         p += stride;
     }
     p
@@ -283,11 +285,11 @@ fn put_signature(out: &mut [u8], at: usize, j: u8, signatures: &[u8])
 }
 
 // The trailer behind a body of n bytes at the start of a slice; answers the length of the frame.
-fn put_trailer(out: &mut [u8], n: usize, config: Config, kind: u8) -> usize
+fn put_trailer(out: &mut [u8], n: usize, config: Config, kind: Kind) -> usize
     requires { (n + trailer_length ≤ length out.old) × (n < 2 ^ 32) }
-    ensures { (out.new ≡ over out.old n (trailer_bytes kind config.own (version_of config.n) n config.number)) × (result ≡ n + trailer_length) }
+    ensures { (out.new ≡ over out.old n (trailer_bytes (number_of kind) config.own (version_of config.n) n config.number)) × (result ≡ n + trailer_length) }
 {
-    out[n] = kind;
+    out[n] = kind.number();
     out[n + 1] = config.own;
     wire::write(out, n + 2, frame::version(config.n));
     wire::write(out, n + 4, n as u32);

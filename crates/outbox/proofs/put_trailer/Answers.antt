@@ -12,7 +12,7 @@ unfolding trailer_bytes be_bytes
 returns c =
     let a = c.args in
     let o = a.out.now in
-    let stored = set o a.n a.kind in
+    let stored = set o a.n c.number.result in
     let both = set stored (a.n + 1) a.config.own in
     let v2 = be_bytes 2 (version_of a.config.n) in
     let v4 = be_bytes 4 a.n in
@@ -23,4 +23,4 @@ returns c =
     let place : a.n + 2 ≡ a.n + 1 + 1 = omega arith in
     let behind : c.write-3.new.s ≡ over stored (a.n + 1) (a.config.own ∷ (v2 ++ (v4 ++ v8))) =
     laid_behind stored c.write-3.new.s (a.n + 1) a.config.own (v2 ++ (v4 ++ v8)) (numbers ∙ ap (λ (q : ℕ). over both q (v2 ++ (v4 ++ v8))) place) in
-    (laid_behind o c.write-3.new.s a.n a.kind (a.config.own ∷ (v2 ++ (v4 ++ v8))) behind, refl)
+    (rw (← c.number.ensures) (laid_behind o c.write-3.new.s a.n c.number.result (a.config.own ∷ (v2 ++ (v4 ++ v8))) behind), refl)
