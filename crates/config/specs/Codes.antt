@@ -1,5 +1,6 @@
 -- Document 01, "Codes": the number of each answer.
-use Rattle.std.specs.Prelude.{Ok, Err, Bool, true, false, cond, ℕ}
+use Rattle.std.specs.Prelude.{Ok, Err, Bool, cond, ℕ}
+use Rattle.std.specs.Result.{is_ok}
 use Rattle.config.specs.Answers.{Answer, Done, Config}
 use Rattle.config.specs.declared.Refusal.TheVariants as refusal
 
@@ -32,5 +33,4 @@ making good = cond good Done Config
 
 -- "Only code 0 changes anything"
 abbrev pub is_done : Answer → Bool
-is_done (Ok done) = true
-is_done (Err refusal) = false
+is_done a = is_ok a

@@ -1,5 +1,5 @@
 // The schedule: how many members send in each stage.
-ghost use Rattle.std.specs.Prelude.{◌≡◌, ◌≤◌, take};
+ghost use Rattle.std.specs.Prelude.{◌≡◌, ◌≤◌, length};
 ghost use Rattle.config.specs.Limits.{most_stages};
 ghost use Rattle.config.specs.Bounds.{none_empty, sum, good_schedule};
 
@@ -13,39 +13,24 @@ pub(crate) fn good_schedule(n: u8, f: u8, count: u8, schedule: [u8; Config::STAG
     if Config::STAGES < stages {
         return false;
     }
-    let senders = sum_of(schedule, stages);
-    (1 <= stages)
-        & none_empty(schedule, stages)
-        & ((f as usize) < senders)
-        & (senders <= n as usize)
+    let used = &schedule[..stages];
+    let senders = sum_of(used);
+    (1 <= stages) & none_empty(used) & ((f as usize) < senders) & (senders <= n as usize)
 }
 
-// Whether each of the first `stages` stages has a member.
-#[tactic(auto, using(crate::proofs::Stages::none_empty_suc), unfolding(crate::specs::Bounds::none_empty))]
-fn none_empty(schedule: [u8; Config::STAGES], stages: usize) -> bool
-    requires { stages ≤ most_stages }
-    ensures { result ≡ none_empty (take stages schedule) }
+// Whether each stage has a member.
+#[tactic(auto, using(crate::proofs::Stages::each_is_some, crate::proofs::Stages::one_is_empty))]
+fn none_empty(schedule: &[u8]) -> bool
+    ensures { result ≡ none_empty schedule.now }
 {
-    let mut some = true;
-    let mut k: usize = 0;
-    while k < stages {
-        some = some & (1 <= schedule[k]);
-        k += 1;
-    }
-    some
+    schedule.iter().all(|members| 1 <= *members)
 }
 
-// How many members the first `stages` stages have together.
-#[tactic(auto, using(crate::proofs::Stages::sum_suc), unfolding(crate::specs::Bounds::sum))]
-fn sum_of(schedule: [u8; Config::STAGES], stages: usize) -> usize
-    requires { stages ≤ most_stages }
-    ensures { result ≡ sum (take stages schedule) }
+// How many members the stages have together.
+#[tactic(auto, using(crate::proofs::Stages::sum_is))]
+fn sum_of(schedule: &[u8]) -> usize
+    requires { length schedule.now ≤ most_stages }
+    ensures { result ≡ sum schedule.now }
 {
-    let mut total: usize = 0;
-    let mut k: usize = 0;
-    while k < stages {
-        total += schedule[k] as usize;
-        k += 1;
-    }
-    total
+    schedule.iter().map(|members| usize::from(*members)).sum()
 }

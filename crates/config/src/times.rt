@@ -15,7 +15,7 @@ pub fn good_time(time: u64) -> bool
 pub fn between(from: u64, to: u64) -> u64
     ensures { result ≡ to - from }
 {
-    if from < to { to - from } else { 0 }
+    to.saturating_sub(from)
 }
 
 // Whether epoch and round are both 0 or neither.

@@ -22,7 +22,7 @@ use Rattle.frame.specs.Message.{Attested}
 use Rattle.frame.specs.Decode.{attested_in}
 use Rattle.frame.specs.Check.{body_answer}
 use Rattle.report.specs.declared.Fault.{Fault}
-use Rattle.report.specs.declared.Fault.TheVariants as fault
+use Rattle.report.specs.Faults as fault
 use Rattle.report.specs.Faults.{code_of}
 use Rattle.report.specs.Stands.{attested_fault}
 use Rattle.report.specs.Newer.{newer}

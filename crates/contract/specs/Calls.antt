@@ -9,7 +9,7 @@ use Rattle.price.specs.Median.{median_of}
 use Rattle.frame.specs.Message.{Attested}
 use Rattle.frame.specs.Decode.{attested_in}
 use Rattle.frame.specs.Check.{body_answer}
-use Rattle.report.specs.declared.Fault.TheVariants as fault
+use Rattle.report.specs.Faults as fault
 use Rattle.report.specs.Faults.{code_of}
 use Rattle.report.specs.Stands.{members_of, values_of, attested_fault}
 use Rattle.report.specs.Newer.{newer}

@@ -8,7 +8,7 @@ use Rattle.quorum.specs.Counts.{count_if}
 use Rattle.quorum.specs.First.{among, members_to}
 use Rattle.price.specs.Median.{median_of}
 use Rattle.frame.specs.Decode.{attested_in}
-use Rattle.report.specs.declared.Fault.TheVariants as fault
+use Rattle.report.specs.Faults as fault
 use Rattle.report.specs.Stands.{members_of, values_of, attested_fault}
 use Rattle.report.specs.Newer.{newer}
 use Rattle.report.specs.Claims.{BetweenGood}

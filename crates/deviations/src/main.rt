@@ -36,9 +36,9 @@ fn take_turn<R: Input + Print>(rt: &R) -> io::Result<bool> {
 
 fn deviates(case: &[u8; CASE]) -> bool {
     let s: &[u8] = case;
-    let alpha = wire::get_u32(s, 0);
-    let old = wire::get_i64(s, 4);
-    let new = wire::get_i64(s, 12);
+    let alpha = wire::read::<u32>(s, 0);
+    let old = wire::read::<i64>(s, 4);
+    let new = wire::read::<i64>(s, 12);
     let schedule = [4u8, 0, 0, 0, 0, 0, 0, 0];
     let config = Config::new(0, 4, 1, 1, 1, alpha, 0, 0, 1, schedule);
     price::deviates(config, old, new)

@@ -23,7 +23,7 @@ fn take_turn<R: Input + Print>(rt: &R) -> io::Result<bool> {
         return Ok(false);
     }
     let s: &[u8] = &long;
-    take_input(rt, wire::get_u16(s, 0))?;
+    take_input(rt, wire::read::<u16>(s, 0))?;
     rt.write_all(b"--\n")?;
     Ok(true)
 }

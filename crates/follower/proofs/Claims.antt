@@ -17,7 +17,7 @@ use Rattle.quorum.specs.First.{first_at}
 use Rattle.quorum.proofs.Marks.{mark_there, mark_stays, marks_more}
 use Rattle.frame.specs.Encode.{attested_bytes}
 use Rattle.frame.specs.Message.{Signed, Signer, Attested, Message, new_epoch, observe_req, observe, report_req, report, final, final_echo, blank}
-use Rattle.report.specs.declared.Fault.TheVariants as fault
+use Rattle.report.specs.Faults as fault
 use Rattle.report.specs.Stands.{values_of, not_falling, list_fault, bits_fault, repeat_fault, signers_fault, attested_fault}
 use Rattle.report.specs.Kept.{keeping}
 use Rattle.report.proofs.Faults.{first_nothing}
@@ -26,9 +26,8 @@ use Rattle.follower.specs.declared.Follower.{Follower}
 use Rattle.follower.specs.declared.Followed.{Followed}
 use Rattle.follower.specs.declared.Reply.{Reply}
 use Rattle.follower.specs.declared.Reply.TheVariants as reply
-use Rattle.follower.specs.declared.Finding.TheVariants.{Ignored}
 use Rattle.follower.specs.State.{is_set, good_follower, in_round}
-use Rattle.follower.specs.Takes.{fault_of, finding_of}
+use Rattle.follower.specs.Takes.{fault_of, finding_of, Ignored}
 use Rattle.follower.specs.Rules.{now_kept, now_marked, asked, received, echoed, follow_of, kept_of}
 use Rattle.follower.specs.Claims.{KeptAndChecked, KeptWasChecked, ListWasChecked, ReportedWasChecked, CountedOnce, EchoCountsOnce, MarksStay, KeptNothingElse, GoodStaysGood}
 use Rattle.follower.proofs.State.{good_parts, good_round, good_signed, good_completed, good_kept_lem, good_marked}

@@ -6,14 +6,13 @@ use Rattle.quorum.specs.First.{all_set}
 use Rattle.quorum.specs.Marks.{marked}
 use Rattle.frame.specs.Message.{Signed, Attested, Message, new_epoch, observe_req, observe, report_req, report, final, final_echo}
 use Rattle.frame.specs.Encode.{attested_bytes}
-use Rattle.report.specs.declared.Fault.TheVariants as fault
+use Rattle.report.specs.Faults as fault
 use Rattle.report.specs.Stands.{list_fault, attested_fault}
 use Rattle.report.specs.Kept.{keeping, cleared}
 use Rattle.follower.specs.declared.Follower.{Follower}
 use Rattle.follower.specs.declared.Reply.TheVariants as reply
-use Rattle.follower.specs.declared.Finding.TheVariants.{Taken}
 use Rattle.follower.specs.State.{good_follower}
-use Rattle.follower.specs.Takes.{finding_of}
+use Rattle.follower.specs.Takes.{finding_of, Taken}
 use Rattle.follower.specs.Rules.{marked_by, requests, follow_of, kept_of}
 
 -- the report that a message carries, where it carries one

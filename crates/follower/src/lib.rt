@@ -8,6 +8,7 @@ mod taking;
 ghost use Rattle.std.specs.Prelude.{◌≡◌, cond, ◌≤◌, length};
 ghost use Rattle.config.specs.Limits.{members, kept_size};
 ghost use Rattle.config.specs.Answers.{Done};
+ghost use Rattle.frame.specs.Kinds.{number_of};
 ghost use Rattle.frame.specs.Decode.{message_of};
 ghost use Rattle.frame.specs.Check.{body_answer};
 ghost use Rattle.report.specs.Kept.{keeping};
@@ -15,6 +16,7 @@ ghost use Rattle.follower.specs.State.{is_set, good_follower, in_round};
 ghost use Rattle.follower.specs.Rules.{stays, requested, halts, asked, received, echoed, follow_of, kept_of};
 
 use config::{Commit, Config};
+use frame::Kind;
 pub use handing::{handed_of, handed_part};
 use report::Fault;
 
@@ -36,15 +38,17 @@ pub struct Follower {
     pub marks: [u8; Config::MEMBERS],
 }
 
-// What a follower says of a message.
-#[derive(Clone, Copy)]
-pub enum Finding {
+// Why a message is not taken.
+#[derive(Clone, Copy, PartialEq, Eq)]
+pub enum Objection {
     // its rule's conditions do not hold
     Ignored,
     // they hold, and this is wrong with it
     Wrong(Fault),
-    Taken,
 }
+
+// What a follower says of a message: that it is taken, or why it is not.
+pub type Finding = Result<(), Objection>;
 
 // What a rule has the node send.
 #[derive(Clone, Copy)]
@@ -115,12 +119,12 @@ impl Follower {
 
     // Whether a request halts the instance: whoever follows it raises changeleader.
     #[tactic(auto, using(frame::proofs::Checked::checked_head, frame::proofs::Messages::by_kind), unfolding(frame::specs::Decode::message_of))]
-    pub fn halts(config: Config, kind: u8, body: &[u8]) -> bool
-        requires { (1 ≤ kind) × (kind ≤ 7) × (body_answer config.n kind body.now ≡ Done) }
-        ensures { result ≡ halts config (message_of kind body.now) }
+    pub fn halts(config: Config, kind: Kind, body: &[u8]) -> bool
+        requires { body_answer config.n (number_of kind) body.now ≡ Done }
+        ensures { result ≡ halts config (message_of (number_of kind) body.now) }
     {
         match kind {
-            2 => config.r_max < frame::round_of(body),
+            Kind::ObserveReq => config.r_max < frame::round_of(body),
             _ => false,
         }
     }
@@ -131,26 +135,29 @@ impl Follower {
         self,
         config: Config,
         j: u8,
-        kind: u8,
+        kind: Kind,
         body: &[u8],
         time: u64,
         commit: Commit,
         kept: &mut [u8],
     ) -> Followed
-        requires { (1 ≤ kind) × (kind ≤ 7) × (body_answer config.n kind body.now ≡ Done) × (1 ≤ j) × (j ≤ config.n) × (config.n ≤ members) × (kept_size ≤ length kept.old) }
-        ensures { (result ≡ follow_of config self j time commit (message_of kind body.now)) × (kept.new ≡ kept_of self kept.old (message_of kind body.now)) }
+        requires { (body_answer config.n (number_of kind) body.now ≡ Done) × (1 ≤ j) × (j ≤ config.n) × (config.n ≤ members) × (kept_size ≤ length kept.old) }
+        ensures { (result ≡ follow_of config self j time commit (message_of (number_of kind) body.now)) × (kept.new ≡ kept_of self kept.old (message_of (number_of kind) body.now)) }
     {
         match kind {
-            2 => {
+            Kind::ObserveReq => {
                 report::clear(kept);
                 self.requested(config, frame::round_of(body))
             }
-            4 => self.asked(config, time, commit, report::median(body, frame::stride(4))),
-            6 => {
+            Kind::ReportReq => {
+                let median = report::median(body, frame::stride(Kind::ReportReq));
+                self.asked(config, time, commit, median)
+            }
+            Kind::Final => {
                 report::keep(kept, body);
                 self.received()
             }
-            7 => {
+            Kind::FinalEcho => {
                 keep_unless(self.kept, kept, body);
                 self.echoed(config, j)
             }

@@ -1,25 +1,37 @@
 // Which messages a follower takes, and what is wrong with one that it takes.
-ghost use Rattle.std.specs.Prelude.{◌≡◌, ℕ, ◌≤◌, length};
+ghost use Rattle.std.specs.Prelude.{◌≡◌, ℕ, ◌≤◌, length, Err};
+ghost use Rattle.std.specs.Ordering.{nat_cmp};
 ghost use Rattle.config.specs.Limits.{members};
 ghost use Rattle.config.specs.Answers.{Done};
+ghost use Rattle.frame.specs.Kinds.{number_of};
 ghost use Rattle.frame.specs.Message.{observe_req, report_req, final, final_echo};
 ghost use Rattle.frame.specs.Decode.{epoch_in, round_in, signed_in, attested_in, message_of};
 ghost use Rattle.frame.specs.Check.{body_answer};
-ghost use Rattle.follower.specs.Takes.{relation_of, current, takes, fault_of, finding_of, answer_of};
+ghost use Rattle.follower.specs.Takes.{current, takes, fault_of, finding_of, answer_of};
+ghost use Rattle.follower.specs.declared.Objection.TheVariants.{Wrong};
 
-use crate::{Finding, Follower};
-use config::{Answer, Config};
-use report::Fault;
+use crate::{Finding, Follower, Objection};
+use config::{Config, Refusal};
+use frame::Kind;
+use report::{Fault, Standing};
+use std::cmp::Ordering;
 
-impl Finding {
-    // The answer that a finding is given.
-    pub fn answer(self) -> Answer
-        ensures { result ≡ answer_of self }
-    {
-        match self {
-            Finding::Ignored => Answer::Ignored,
-            Finding::Wrong(_) => Answer::Proof,
-            Finding::Taken => Answer::Done,
+impl From<Fault> for Objection {
+    ghost from_gives = { λ fault objection. objection ≡ Wrong fault };
+
+    fn from(fault: Fault) -> Objection {
+        Objection::Wrong(fault)
+    }
+}
+
+impl From<Objection> for Refusal {
+    ghost from_gives = { λ objection refusal. Err refusal ≡ answer_of (Err objection) };
+
+    // The answer that an objection is given.
+    fn from(objection: Objection) -> Refusal {
+        match objection {
+            Objection::Ignored => Refusal::Ignored,
+            Objection::Wrong(_) => Refusal::Proof,
         }
     }
 }
@@ -33,34 +45,31 @@ impl Follower {
         epoch: u32,
         leader: u8,
         j: u8,
-        kind: u8,
+        kind: Kind,
         body: &[u8],
         bits: u64,
     ) -> Finding
-        requires { (1 ≤ kind) × (kind ≤ 7) × (body_answer config.n kind body.now ≡ Done) × (1 ≤ j) × (j ≤ members) }
-        ensures { result ≡ finding_of self config.f epoch leader j bits (message_of kind body.now) }
+        requires { (body_answer config.n (number_of kind) body.now ≡ Done) × (1 ≤ j) × (j ≤ members) }
+        ensures { result ≡ finding_of self config.f epoch leader j bits (message_of (number_of kind) body.now) }
     {
         if !self.takes(config.n, epoch, leader, j, kind, body) {
-            return Finding::Ignored;
+            return Err(Objection::Ignored);
         }
-        let fault = fault_of(config.n, config.f, kind, body, bits);
-        if fault.code().is_done() {
-            return Finding::Taken;
-        }
-        Finding::Wrong(fault)
+        fault_of(config.n, config.f, kind, body, bits)?;
+        Ok(())
     }
 
     // Whether the conditions of the message's rule hold.
     #[tactic(auto, using(frame::proofs::Checked::checked_head, frame::proofs::Messages::by_kind), unfolding(frame::specs::Decode::message_of))]
-    fn takes(self, n: u8, epoch: u32, leader: u8, j: u8, kind: u8, body: &[u8]) -> bool
-        requires { (1 ≤ kind) × (kind ≤ 7) × (body_answer n kind body.now ≡ Done) × (1 ≤ j) × (j ≤ members) }
-        ensures { result ≡ takes self epoch leader j (message_of kind body.now) }
+    fn takes(self, n: u8, epoch: u32, leader: u8, j: u8, kind: Kind, body: &[u8]) -> bool
+        requires { (body_answer n (number_of kind) body.now ≡ Done) × (1 ≤ j) × (j ≤ members) }
+        ensures { result ≡ takes self epoch leader j (message_of (number_of kind) body.now) }
     {
         match kind {
-            2 => self.takes_request(epoch, leader, j, body),
-            4 => self.takes_list(epoch, leader, j, body),
-            6 => self.takes_final(epoch, leader, j, body),
-            7 => self.takes_echo(epoch, j, body),
+            Kind::ObserveReq => self.takes_request(epoch, leader, j, body),
+            Kind::ReportReq => self.takes_list(epoch, leader, j, body),
+            Kind::Final => self.takes_final(epoch, leader, j, body),
+            Kind::FinalEcho => self.takes_echo(epoch, j, body),
             _ => false,
         }
     }
@@ -72,15 +81,23 @@ impl Follower {
         (self.live == 1) & (e == epoch)
     }
 
+    // How the round of a body stands to this node's.
+    fn relation(self, body: &[u8]) -> Ordering
+        requires { 5 ≤ length body.now }
+        ensures { result ≡ nat_cmp (round_in body.now) self.round }
+    {
+        frame::round_of(body).cmp(&self.round)
+    }
+
     #[tactic(auto, using(crate::proofs::Rounds::later_round))]
     fn takes_request(self, epoch: u32, leader: u8, j: u8, body: &[u8]) -> bool
         requires { 5 ≤ length body.now }
         ensures { result ≡ takes self epoch leader j (observe_req (epoch_in body.now) (round_in body.now)) }
     {
-        let relation = relation(frame::round_of(body), self.round);
-        match relation {
-            0..=1 => false,
-            _ => self.current(epoch, frame::epoch_of(body)) & (j == leader),
+        let current = self.current(epoch, frame::epoch_of(body));
+        match self.relation(body) {
+            Ordering::Less | Ordering::Equal => false,
+            _ => current & (j == leader),
         }
     }
 
@@ -89,12 +106,9 @@ impl Follower {
         requires { 5 ≤ length body.now }
         ensures { result ≡ takes self epoch leader j (report_req (epoch_in body.now) (round_in body.now) (signed_in body.now)) }
     {
-        let relation = relation(frame::round_of(body), self.round);
-        match relation {
-            1 => self.current(epoch, frame::epoch_of(body))
-                & (j == leader)
-                & (self.signed != 1)
-                & (self.completed != 1),
+        let current = self.current(epoch, frame::epoch_of(body));
+        match self.relation(body) {
+            Ordering::Equal => current & (j == leader) & (self.signed != 1) & (self.completed != 1),
             _ => false,
         }
     }
@@ -104,9 +118,9 @@ impl Follower {
         requires { 5 ≤ length body.now }
         ensures { result ≡ takes self epoch leader j (final (attested_in body.now)) }
     {
-        let relation = relation(frame::round_of(body), self.round);
-        match relation {
-            1 => self.current(epoch, frame::epoch_of(body)) & (j == leader) & (self.kept != 1),
+        let current = self.current(epoch, frame::epoch_of(body));
+        match self.relation(body) {
+            Ordering::Equal => current & (j == leader) & (self.kept != 1),
             _ => false,
         }
     }
@@ -118,9 +132,9 @@ impl Follower {
     {
         let place = j as usize - 1;
         let mark = self.marks[place];
-        let relation = relation(frame::round_of(body), self.round);
-        match relation {
-            1 => self.current(epoch, frame::epoch_of(body)) & (mark != 1) & (self.completed != 1),
+        let current = self.current(epoch, frame::epoch_of(body));
+        match self.relation(body) {
+            Ordering::Equal => current & (mark != 1) & (self.completed != 1),
             _ => false,
         }
     }
@@ -128,29 +142,16 @@ impl Follower {
 
 // What is wrong with a message that is taken.
 #[tactic(auto, using(frame::proofs::Messages::by_kind, crate::proofs::Bodies::whole_list, crate::proofs::Bodies::list_faults, crate::proofs::Bodies::whole_report), unfolding(frame::specs::Decode::message_of))]
-fn fault_of(n: u8, f: u8, kind: u8, body: &[u8], bits: u64) -> Fault
-    requires { (1 ≤ kind) × (kind ≤ 7) × (body_answer n kind body.now ≡ Done) }
-    ensures { result ≡ fault_of f bits (message_of kind body.now) }
+fn fault_of(n: u8, f: u8, kind: Kind, body: &[u8], bits: u64) -> Standing
+    requires { body_answer n (number_of kind) body.now ≡ Done }
+    ensures { result ≡ fault_of f bits (message_of (number_of kind) body.now) }
 {
     match kind {
-        4 => report::list_fault(body, frame::stride(4), f).or(report::bits_fault(
-            bits,
-            frame::count_of(body),
-        )),
-        6..=7 => report::attested_fault(body, f, bits),
-        _ => Fault::Nothing,
+        Kind::ReportReq => {
+            report::list_fault(body, frame::stride(Kind::ReportReq), f)?;
+            report::bits_fault(bits, frame::count_of(body))
+        }
+        Kind::Final | Kind::FinalEcho => report::attested_fault(body, f, bits),
+        _ => Ok(()),
     }
-}
-
-// How one round stands to another: 0 below it, 1 the same, 2 above it.
-fn relation(round: u8, own: u8) -> u8
-    ensures { result ≡ relation_of round own }
-{
-    if round < own {
-        return 0;
-    }
-    if round == own {
-        return 1;
-    }
-    2
 }

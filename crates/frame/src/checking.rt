@@ -37,8 +37,8 @@ fn other_feed(frame: &[u8], n: u8, number: u64) -> bool
     ensures { result ≡ other_feed frame.now n number }
 {
     let end = frame.len() - TRAILER;
-    let other_version = wire::get_u16(frame, end + 2) != crate::version(n);
-    let other_number = wire::get_u64(frame, end + 8) != number;
+    let other_version = wire::read::<u16>(frame, end + 2) != crate::version(n);
+    let other_number = wire::read::<u64>(frame, end + 8) != number;
     other_version | other_number
 }
 

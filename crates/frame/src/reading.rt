@@ -47,7 +47,7 @@ pub fn body_start(frame: &[u8]) -> Option<usize>
         return None;
     }
     let end = frame.len() - TRAILER;
-    let length = wire::get_u32(frame, end + 4) as usize;
+    let length = wire::read::<u32>(frame, end + 4) as usize;
     if end < length {
         return None;
     }
@@ -58,7 +58,7 @@ pub fn epoch_of(body: &[u8]) -> u32
     requires { 4 ≤ length body.now }
     ensures { result ≡ epoch_in body.now }
 {
-    wire::get_u32(body, 0)
+    wire::read::<u32>(body, 0)
 }
 
 pub fn round_of(body: &[u8]) -> u8
@@ -73,7 +73,7 @@ pub fn value_of(body: &[u8]) -> i64
     requires { 13 ≤ length body.now }
     ensures { result ≡ value_in body.now }
 {
-    wire::get_i64(body, 5)
+    wire::read::<i64>(body, 5)
 }
 
 // The signature of an OBSERVE.
@@ -110,7 +110,7 @@ pub fn value_at(body: &[u8], stride: usize, i: usize) -> i64
     requires { ListIn stride i body.now }
     ensures { result ≡ (get_or (observations_in stride body.now) i no_observation).value }
 {
-    wire::get_i64(body, LIST + i * stride + 1)
+    wire::read::<i64>(body, LIST + i * stride + 1)
 }
 
 // Where a list of bare observations ends: at the signature of a REPORT, at s of a FINAL.

@@ -45,7 +45,7 @@ fn number(long: &[u8; 2]) -> usize
     ensures { result < 2 ^ 16 }
 {
     let s: &[u8] = long;
-    wire::get_u16(s, 0) as usize
+    wire::read::<u16>(s, 0) as usize
 }
 
 // What the case of n bytes at the start of a buffer asks for.

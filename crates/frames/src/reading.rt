@@ -14,7 +14,7 @@ pub fn read<R: Print>(rt: &R, case: &[u8]) -> io::Result<()> {
     if case.len() < FRAME {
         return Ok(());
     }
-    read_frame(rt, case[1], case[2], wire::get_u64(case, 3), &case[FRAME..])
+    read_frame(rt, case[1], case[2], wire::read::<u64>(case, 3), &case[FRAME..])
 }
 
 #[tactic(auto, using(config::proofs::Facts::done_only, frame::proofs::Ranges::one_to, frame::proofs::Framed::checked_frame))]
@@ -54,7 +54,7 @@ fn say_observe<R: Print>(rt: &R, body: &[u8]) -> io::Result<()>
     requires { 13 ≤ length body.now }
 {
     say_head(rt, body)?;
-    show::number(rt, wire::to_unsigned(frame::value_of(body)))
+    show::number(rt, frame::value_of(body).cast_unsigned())
 }
 
 // The head, m, and member and value of each observation.
@@ -67,7 +67,7 @@ fn say_list<R: Print>(rt: &R, body: &[u8], stride: usize) -> io::Result<()>
     let mut i: usize = 0;
     while i < m {
         show::number(rt, frame::member_at(body, stride, i) as u64)?;
-        show::number(rt, wire::to_unsigned(frame::value_at(body, stride, i)))?;
+        show::number(rt, frame::value_at(body, stride, i).cast_unsigned())?;
         i += 1;
     }
     Ok(())

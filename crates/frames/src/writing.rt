@@ -28,13 +28,13 @@ pub fn write<R: Print>(rt: &R, case: &[u8]) -> io::Result<()> {
     if case.len() < SAID {
         return Ok(());
     }
-    let at = wire::get_u16(case, 12) as usize;
+    let at = wire::read::<u16>(case, 12) as usize;
     if OUTBOX < at + frame::TRAILER {
         return Ok(());
     }
     let schedule = [0u8; Config::STAGES];
     let config = Config::new(
-        wire::get_u64(case, 4),
+        wire::read::<u64>(case, 4),
         case[2],
         0,
         case[3],
@@ -90,7 +90,7 @@ fn put_newepoch(outbox: &mut [u8], at: usize, config: Config, said: &[u8]) -> us
     if space(outbox.len(), at) < frame::body_length(1, 0, 0) {
         return 0;
     }
-    outbox::write_newepoch(outbox, at, config, wire::get_u32(said, 0))
+    outbox::write_newepoch(outbox, at, config, wire::read::<u32>(said, 0))
 }
 
 // Epoch, round.
@@ -103,7 +103,7 @@ fn put_observe_req(outbox: &mut [u8], at: usize, config: Config, said: &[u8]) ->
     if space(outbox.len(), at) < frame::body_length(2, 0, 0) {
         return 0;
     }
-    outbox::write_observe_req(outbox, at, config, wire::get_u32(said, 0), said[4])
+    outbox::write_observe_req(outbox, at, config, wire::read::<u32>(said, 0), said[4])
 }
 
 // Epoch, round, value.
@@ -120,9 +120,9 @@ fn put_observe(outbox: &mut [u8], at: usize, config: Config, said: &[u8]) -> usi
         outbox,
         at,
         config,
-        wire::get_u32(said, 0),
+        wire::read::<u32>(said, 0),
         said[4],
-        wire::get_i64(said, 5),
+        wire::read::<i64>(said, 5),
     )
 }
 
@@ -141,7 +141,7 @@ fn put_report_req(outbox: &mut [u8], at: usize, config: Config, said: &[u8]) -> 
         outbox,
         at,
         config,
-        wire::get_u32(said, 0),
+        wire::read::<u32>(said, 0),
         said[4],
         &said[frame::LIST..end],
         &said[end..],
@@ -223,7 +223,7 @@ fn put_final(outbox: &mut [u8], at: usize, config: Config, said: &[u8]) -> usize
         outbox,
         at,
         config,
-        wire::get_u32(said, 0),
+        wire::read::<u32>(said, 0),
         said[4],
         &said[frame::LIST..end],
         &said[first..last],
@@ -321,7 +321,7 @@ fn values_in(tables: &[u8], n: u8) -> [i64; VALUES]
     let mut values = [0i64; VALUES];
     let mut i: usize = 0;
     while i < n as usize {
-        values[i] = wire::get_i64(tables, VALUE * i);
+        values[i] = wire::read::<i64>(tables, VALUE * i);
         i += 1;
     }
     values

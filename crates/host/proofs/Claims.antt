@@ -25,7 +25,8 @@ use Rattle.contract.proofs.Claims as contract_laws
 use Rattle.host.specs.declared.LentNode.{LentNode}
 use Rattle.host.specs.declared.LentSender.{LentSender}
 use Rattle.host.specs.declared.LentContract.{LentContract}
-use Rattle.host.specs.Numbers.{fired_of, timer_number, transmit_number}
+use Rattle.host.specs.Numbers.{timer_number, transmit_number}
+use Rattle.node.specs.Event.{fired_of}
 use Rattle.host.specs.Lent.{plain_outcome, after_out, paying_outcome, with_contract}
 use Rattle.host.specs.Calls.{restore_at, start_at, deliver_at, timer_call, timer_at, sender_fresh_at, transmit_at, timeout_at, contract_fresh_at, submit_at, deposit_at, withdraw_at}
 use Rattle.host.specs.Claims.{done, NodeStays, NodeRefusals, SenderStays, SenderRefusals, ContractStays, ContractRefusals, RefusalChangesNothing}

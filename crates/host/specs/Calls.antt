@@ -8,7 +8,7 @@ use Rattle.contract.specs.Calls as contract
 use Rattle.host.specs.declared.LentNode.{LentNode}
 use Rattle.host.specs.declared.LentSender.{LentSender}
 use Rattle.host.specs.declared.LentContract.{LentContract}
-use Rattle.host.specs.Numbers.{fired_of}
+use Rattle.node.specs.Event.{fired_of}
 use Rattle.host.specs.Lent.{after_made, LentOut, after_out, after_timeout, after_sender_made, LentSlots, after_sent, after_submit, after_deposit, after_withdraw, after_contract_made}
 
 -- ---- a node

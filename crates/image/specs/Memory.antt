@@ -1,5 +1,7 @@
 -- The bytes that a script works on: how many there are, and how long each buffer among them can be.
-use Rattle.std.specs.Prelude.{cond, ℕ, ◌+◌, ◌≤◌, eqb}
+use Rattle.std.specs.Prelude.{ℕ, ◌+◌, ◌≤◌}
+use Rattle.image.specs.declared.memory.Buffer.{Buffer}
+use Rattle.image.specs.declared.memory.Buffer.TheVariants.{Outbox, Kept, Signatures, Waiting}
 use Rattle.image.specs.declared.memory.Lengths.{Lengths}
 use Rattle.image.specs.Image.{node_size, sender_size, contract_size}
 
@@ -15,9 +17,11 @@ signatures_room = 8192
 abbrev pub waiting_room : ℕ
 waiting_room = 40960
 
--- by the letter of the buffer: o, k, g or w
-abbrev pub room_of : ℕ → ℕ
-room_of letter = cond (eqb letter 111) outbox_room (cond (eqb letter 107) kept_room (cond (eqb letter 103) signatures_room waiting_room))
+abbrev pub room_of : Buffer → ℕ
+room_of Outbox = outbox_room
+room_of Kept = kept_room
+room_of Signatures = signatures_room
+room_of Waiting = waiting_room
 
 abbrev pub memory_size : ℕ
 memory_size = node_size + sender_size + contract_size + outbox_room + kept_room + signatures_room + waiting_room

@@ -1,10 +1,9 @@
 // The image of a contract.
-ghost use Rattle.std.specs.Prelude.{◌+◌, ◌*◌, ◌≤◌, length};
-ghost use Rattle.config.specs.Limits.{members};
+ghost use Rattle.std.specs.Prelude.{◌+◌, ◌≤◌, length};
 ghost use Rattle.image.specs.Image.{account_size, ledger_size, terms_size, contract_size};
 
+use crate::entries::{Entry, entries_at, put_bytes, put_entries};
 use crate::{ACCOUNT, COMMIT, LEDGER};
-use config::Config;
 use contract::{Contract, Terms};
 use ledger::{Account, Ledger};
 
@@ -30,70 +29,44 @@ fn ledger_at(s: &[u8], at: usize) -> Ledger
     requires { at + ledger_size ≤ length s.now }
 {
     Ledger {
-        fund: wire::get_u64(s, at),
-        deposits: wire::get_u64(s, at + 8),
-        accounts: accounts_at(s, at + 16),
+        fund: wire::read::<u64>(s, at),
+        deposits: wire::read::<u64>(s, at + 8),
+        accounts: entries_at(s, at + 16),
     }
 }
 
 fn put_ledger(s: &mut [u8], at: usize, ledger: Ledger)
     requires { at + ledger_size ≤ length s.old }
 {
-    wire::put_u64(s, at, ledger.fund);
-    wire::put_u64(s, at + 8, ledger.deposits);
-    let accounts = ledger.accounts;
-    put_accounts(s, at + 16, accounts);
+    wire::write(s, at, ledger.fund);
+    wire::write(s, at + 8, ledger.deposits);
+    put_entries(s, at + 16, &ledger.accounts);
 }
 
-fn accounts_at(s: &[u8], at: usize) -> [Account; Config::MEMBERS]
-    requires { at + account_size * members ≤ length s.now }
-{
-    let mut accounts = [Account {
-        balance: 0,
-        paid: 0,
-    }; Config::MEMBERS];
-    let mut i: usize = 0;
-    while i < Config::MEMBERS {
-        let account = account_at(s, at + ACCOUNT * i);
-        accounts[i] = account;
-        i += 1;
+impl Entry for Account {
+    const WIDTH: usize = ACCOUNT;
+
+    ghost WIDTH = { account_size };
+
+    fn read(s: &[u8], at: usize) -> Account {
+        Account {
+            balance: wire::read::<u64>(s, at),
+            paid: wire::read::<u64>(s, at + 8),
+        }
     }
-    accounts
-}
 
-fn put_accounts(s: &mut [u8], at: usize, accounts: [Account; Config::MEMBERS])
-    requires { at + account_size * members ≤ length s.old }
-{
-    let mut i: usize = 0;
-    while i < Config::MEMBERS {
-        let account = accounts[i];
-        put_account(s, at + ACCOUNT * i, account);
-        i += 1;
+    fn write(self, s: &mut [u8], at: usize) {
+        wire::write(s, at, self.balance);
+        wire::write(s, at + 8, self.paid);
     }
-}
-
-fn account_at(s: &[u8], at: usize) -> Account
-    requires { at + account_size ≤ length s.now }
-{
-    Account {
-        balance: wire::get_u64(s, at),
-        paid: wire::get_u64(s, at + 8),
-    }
-}
-
-fn put_account(s: &mut [u8], at: usize, account: Account)
-    requires { at + account_size ≤ length s.old }
-{
-    wire::put_u64(s, at, account.balance);
-    wire::put_u64(s, at + 8, account.paid);
 }
 
 pub fn terms_at(s: &[u8], at: usize) -> Terms
     requires { at + terms_size ≤ length s.now }
 {
     Terms {
-        observation_fee: wire::get_u64(s, at),
-        sending_fee: wire::get_u64(s, at + 8),
+        observation_fee: wire::read::<u64>(s, at),
+        sending_fee: wire::read::<u64>(s, at + 8),
         n: s[at + 16],
         f: s[at + 17],
     }
@@ -102,8 +75,7 @@ pub fn terms_at(s: &[u8], at: usize) -> Terms
 fn put_terms(s: &mut [u8], at: usize, terms: Terms)
     requires { at + terms_size ≤ length s.old }
 {
-    wire::put_u64(s, at, terms.observation_fee);
-    wire::put_u64(s, at + 8, terms.sending_fee);
-    wire::put_u8(s, at + 16, terms.n);
-    wire::put_u8(s, at + 17, terms.f);
+    wire::write(s, at, terms.observation_fee);
+    wire::write(s, at + 8, terms.sending_fee);
+    put_bytes(s, at + 16, &[terms.n, terms.f]);
 }

@@ -3,16 +3,17 @@
 #![tactic(auto)]
 
 mod contract_image;
+mod entries;
 pub mod memory;
 mod node_parts;
 mod sender_image;
 
 ghost use Rattle.std.specs.Prelude.{◌+◌, ◌≤◌, length};
-ghost use Rattle.config.specs.Limits.{most_stages};
 ghost use Rattle.image.specs.Image.{config_size, commit_size};
 
 use config::{Commit, Config};
 pub use contract_image::{contract_at, put_contract, terms_at};
+use entries::{bytes_at, put_bytes};
 pub use node_parts::{follower_at, leader_at, pace_at, put_follower, put_leader, put_pace};
 pub use sender_image::{put_sender, sender_at};
 
@@ -47,63 +48,41 @@ pub fn config_at(s: &[u8], at: usize) -> Config
     requires { at + config_size ≤ length s.now }
 {
     Config {
-        number: wire::get_u64(s, at),
-        delta_c: wire::get_u64(s, at + 8),
-        delta_stage: wire::get_u64(s, at + 16),
-        alpha: wire::get_u32(s, at + 24),
+        number: wire::read::<u64>(s, at),
+        delta_c: wire::read::<u64>(s, at + 8),
+        delta_stage: wire::read::<u64>(s, at + 16),
+        alpha: wire::read::<u32>(s, at + 24),
         n: s[at + 28],
         f: s[at + 29],
         own: s[at + 30],
         r_max: s[at + 31],
         stages: s[at + 32],
-        schedule: schedule_at(s, at + 33),
+        schedule: bytes_at(s, at + 33),
     }
-}
-
-fn schedule_at(s: &[u8], at: usize) -> [u8; Config::STAGES]
-    requires { at + most_stages ≤ length s.now }
-{
-    let mut schedule = [0u8; Config::STAGES];
-    wire::copy(&mut schedule, 0, s, at, Config::STAGES);
-    schedule
 }
 
 pub fn put_config(s: &mut [u8], at: usize, config: Config)
     requires { at + config_size ≤ length s.old }
 {
-    wire::put_u64(s, at, config.number);
-    wire::put_u64(s, at + 8, config.delta_c);
-    wire::put_u64(s, at + 16, config.delta_stage);
-    wire::put_u32(s, at + 24, config.alpha);
-    put_counts(s, at + 28, config);
-    let schedule = config.schedule;
-    put_schedule(s, at + 33, &schedule);
-}
-
-// The numbers of one byte.
-fn put_counts(s: &mut [u8], at: usize, config: Config)
-    requires { at + 5 ≤ length s.old }
-{
-    wire::put_u8(s, at, config.n);
-    wire::put_u8(s, at + 1, config.f);
-    wire::put_u8(s, at + 2, config.own);
-    wire::put_u8(s, at + 3, config.r_max);
-    wire::put_u8(s, at + 4, config.stages);
-}
-
-fn put_schedule(s: &mut [u8], at: usize, schedule: &[u8; Config::STAGES])
-    requires { at + most_stages ≤ length s.old }
-{
-    wire::copy(s, at, schedule, 0, Config::STAGES);
+    wire::write(s, at, config.number);
+    wire::write(s, at + 8, config.delta_c);
+    wire::write(s, at + 16, config.delta_stage);
+    wire::write(s, at + 24, config.alpha);
+    put_bytes(
+        s,
+        at + 28,
+        &[config.n, config.f, config.own, config.r_max, config.stages],
+    );
+    put_bytes(s, at + 33, &config.schedule);
 }
 
 pub fn commit_at(s: &[u8], at: usize) -> Commit
     requires { at + commit_size ≤ length s.now }
 {
     Commit {
-        median: wire::get_i64(s, at),
-        time: wire::get_u64(s, at + 8),
-        epoch: wire::get_u32(s, at + 16),
+        median: wire::read::<i64>(s, at),
+        time: wire::read::<u64>(s, at + 8),
+        epoch: wire::read::<u32>(s, at + 16),
         round: s[at + 20],
     }
 }
@@ -111,8 +90,8 @@ pub fn commit_at(s: &[u8], at: usize) -> Commit
 pub(crate) fn put_commit(s: &mut [u8], at: usize, commit: Commit)
     requires { at + commit_size ≤ length s.old }
 {
-    wire::put_i64(s, at, commit.median);
-    wire::put_u64(s, at + 8, commit.time);
-    wire::put_u32(s, at + 16, commit.epoch);
-    wire::put_u8(s, at + 20, commit.round);
+    wire::write(s, at, commit.median);
+    wire::write(s, at + 8, commit.time);
+    wire::write(s, at + 16, commit.epoch);
+    wire::write(s, at + 20, commit.round);
 }

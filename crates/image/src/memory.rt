@@ -3,6 +3,8 @@
 ghost use Rattle.std.specs.Prelude.{◌≡◌, ◌+◌, ◌≤◌, length};
 ghost use Rattle.image.specs.Memory.{memory_size, room_of, Within};
 
+use crate::entries::put_bytes;
+
 // The room of each buffer.
 pub const OUTBOX_ROOM: usize = 8192;
 
@@ -19,18 +21,53 @@ pub const SENDER_AT: usize = NODE_AT + crate::NODE;
 
 pub const CONTRACT_AT: usize = SENDER_AT + crate::SENDER;
 
-pub const OUTBOX_AT: usize = CONTRACT_AT + crate::CONTRACT;
+const OUTBOX_AT: usize = CONTRACT_AT + crate::CONTRACT;
 
-pub const KEPT_AT: usize = OUTBOX_AT + OUTBOX_ROOM;
+const KEPT_AT: usize = OUTBOX_AT + OUTBOX_ROOM;
 
-pub const SIGNATURES_AT: usize = KEPT_AT + KEPT_ROOM;
+const SIGNATURES_AT: usize = KEPT_AT + KEPT_ROOM;
 
-pub const WAITING_AT: usize = SIGNATURES_AT + SIGNATURES_ROOM;
+const WAITING_AT: usize = SIGNATURES_AT + SIGNATURES_ROOM;
 
 pub const SIZE: usize = WAITING_AT + WAITING_ROOM;
 
-// How long each buffer is.
+// The buffers, in the order in which they lie.
 #[derive(Clone, Copy)]
+pub enum Buffer {
+    Outbox,
+    Kept,
+    Signatures,
+    Waiting,
+}
+
+impl Buffer {
+    // Where it begins.
+    pub fn place(self) -> usize
+        ensures { result + room_of self ≤ memory_size }
+    {
+        match self {
+            Buffer::Outbox => OUTBOX_AT,
+            Buffer::Kept => KEPT_AT,
+            Buffer::Signatures => SIGNATURES_AT,
+            Buffer::Waiting => WAITING_AT,
+        }
+    }
+
+    // How long it can be.
+    pub fn room(self) -> usize
+        ensures { result ≡ room_of self }
+    {
+        match self {
+            Buffer::Outbox => OUTBOX_ROOM,
+            Buffer::Kept => KEPT_ROOM,
+            Buffer::Signatures => SIGNATURES_ROOM,
+            Buffer::Waiting => WAITING_ROOM,
+        }
+    }
+}
+
+// How long each buffer is.
+#[derive(Clone, Copy, Default)]
 pub struct Lengths {
     pub outbox: usize,
     pub kept: usize,
@@ -38,85 +75,86 @@ pub struct Lengths {
     pub waiting: usize,
 }
 
-// Where the buffer of a letter begins.
-pub fn place(letter: u8) -> usize
-    ensures { result + room_of letter ≤ memory_size }
-{
-    match letter {
-        b'o' => OUTBOX_AT,
-        b'k' => KEPT_AT,
-        b'g' => SIGNATURES_AT,
-        _ => WAITING_AT,
+// The bytes, and how long each buffer among them is. It is large: lend it, and do not pass it by value.
+#[derive(Drop)]
+pub struct Memory {
+    pub bytes: [u8; SIZE],
+    lengths: Lengths,
+    ghost within: { Within lengths },
+}
+
+impl Memory {
+    // Images of zero bytes, and empty buffers.
+    pub fn new() -> Self {
+        Memory {
+            bytes: [0; SIZE],
+            lengths: Lengths::default(),
+        }
     }
-}
 
-// How long the buffer of a letter can be.
-pub fn room(letter: u8) -> usize
-    ensures { result ≡ room_of letter }
-{
-    match letter {
-        b'o' => OUTBOX_ROOM,
-        b'k' => KEPT_ROOM,
-        b'g' => SIGNATURES_ROOM,
-        _ => WAITING_ROOM,
+    // The bytes of a buffer, as long as it is.
+    pub fn buffer(&self, buffer: Buffer) -> &[u8]
+        ensures { length result.now ≤ room_of buffer }
+    {
+        let place = buffer.place();
+        let end = place + self.length(buffer);
+        &self.bytes[place..end]
     }
-}
 
-// The lengths with that of one buffer changed, by its letter.
-pub fn resized(lengths: Lengths, letter: u8, n: usize) -> Lengths
-    requires { Within lengths × (n ≤ room_of letter) }
-    ensures { Within result }
-{
-    let mut after = lengths;
-    match letter {
-        b'o' => after.outbox = n,
-        b'k' => after.kept = n,
-        b'g' => after.signatures = n,
-        _ => after.waiting = n,
+    // A copy of a buffer in a room of the caller's, to be lent as it is.
+    pub fn copied<'a>(&self, buffer: Buffer, room: &'a mut [u8]) -> &'a mut [u8]
+        requires { room_of buffer ≤ length room.old }
+        ensures { length result.now ≤ room_of buffer }
+    {
+        let bytes = self.buffer(buffer);
+        let copy = &mut room[..bytes.len()];
+        copy.copy_from_slice(bytes);
+        copy
     }
-    after
-}
 
-// Each buffer with all of its room, to be lent as long as it is.
-pub fn outbox_in(bytes: &[u8]) -> [u8; OUTBOX_ROOM]
-    requires { memory_size ≤ length bytes.now }
-{
-    let mut outbox = [0u8; OUTBOX_ROOM];
-    wire::copy(&mut outbox, 0, bytes, OUTBOX_AT, OUTBOX_ROOM);
-    outbox
-}
-
-pub fn kept_in(bytes: &[u8]) -> [u8; KEPT_ROOM]
-    requires { memory_size ≤ length bytes.now }
-{
-    let mut kept = [0u8; KEPT_ROOM];
-    wire::copy(&mut kept, 0, bytes, KEPT_AT, KEPT_ROOM);
-    kept
-}
-
-pub fn signatures_in(bytes: &[u8]) -> [u8; SIGNATURES_ROOM]
-    requires { memory_size ≤ length bytes.now }
-{
-    let mut signatures = [0u8; SIGNATURES_ROOM];
-    wire::copy(&mut signatures, 0, bytes, SIGNATURES_AT, SIGNATURES_ROOM);
-    signatures
-}
-
-pub fn waiting_in(bytes: &[u8]) -> [u8; WAITING_ROOM]
-    requires { memory_size ≤ length bytes.now }
-{
-    let mut waiting = [0u8; WAITING_ROOM];
-    wire::copy(&mut waiting, 0, bytes, WAITING_AT, WAITING_ROOM);
-    waiting
-}
-
-// Writes an image of so many bytes at its place; false where there are more bytes, or fewer.
-pub fn put(bytes: &mut [u8], at: usize, size: usize, image: &[u8]) -> bool
-    requires { at + size ≤ length bytes.old }
-{
-    if image.len() != size {
-        return false;
+    // How long a buffer is.
+    fn length(&self, buffer: Buffer) -> usize
+        ensures { result ≤ room_of buffer }
+    {
+        match buffer {
+            Buffer::Outbox => self.lengths.outbox,
+            Buffer::Kept => self.lengths.kept,
+            Buffer::Signatures => self.lengths.signatures,
+            Buffer::Waiting => self.lengths.waiting,
+        }
     }
-    wire::copy(bytes, at, image, 0, size);
-    true
+
+    // A buffer is set, if there is room for it; else false.
+    pub fn fill(&mut self, buffer: Buffer, said: &[u8]) -> bool {
+        let n = said.len();
+        if buffer.room() < n {
+            return false;
+        }
+        put_bytes(&mut self.bytes, buffer.place(), said);
+        self.resize(buffer, n);
+        true
+    }
+
+    // The length of one buffer is changed.
+    fn resize(&mut self, buffer: Buffer, n: usize)
+        requires { n ≤ room_of buffer }
+    {
+        match buffer {
+            Buffer::Outbox => self.lengths.outbox = n,
+            Buffer::Kept => self.lengths.kept = n,
+            Buffer::Signatures => self.lengths.signatures = n,
+            Buffer::Waiting => self.lengths.waiting = n,
+        }
+    }
+
+    // An image of so many bytes is set at its place; false where there are more bytes, or fewer.
+    pub fn put(&mut self, at: usize, size: usize, image: &[u8]) -> bool
+        requires { at + size ≤ memory_size }
+    {
+        if image.len() != size {
+            return false;
+        }
+        put_bytes(&mut self.bytes, at, image);
+        true
+    }
 }

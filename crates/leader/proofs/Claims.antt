@@ -19,7 +19,7 @@ use Rattle.quorum.proofs.Sort.{sort_sorted}
 use Rattle.frame.specs.Message.{Observation, Signed}
 use Rattle.report.specs.Faults.{first_fault}
 use Rattle.report.specs.Stands.{values_of, list_fault, bits_fault, attested_fault, signers_fault}
-use Rattle.report.specs.declared.Fault.TheVariants as fault
+use Rattle.report.specs.Faults as fault
 use Rattle.report.specs.Claims.{by_value}
 use Rattle.report.proofs.Stands.{sorted_not_falling, nothing_list_fault, nothing_bits_fault, nothing_signers_fault, nothing_attested_fault}
 use Rattle.outbox.specs.Written.{own_frame, observed, observations, signed_observations, signers_of}

@@ -2,6 +2,7 @@
 pub mod Cases
 pub mod Taken
 pub mod Orders
+pub mod Inserted
 pub mod Marked
 pub mod Lines
 pub mod Tables

@@ -6,7 +6,7 @@ use Rattle.config.specs.declared.Timer.TheVariants as timer
 use Rattle.quorum.specs.First.{all_set, distinct}
 use Rattle.quorum.specs.Sort.{Perm}
 use Rattle.frame.specs.Message.{Signed, Attested, observe, report_req, final}
-use Rattle.report.specs.declared.Fault.TheVariants as fault
+use Rattle.report.specs.Faults as fault
 use Rattle.outbox.specs.Written.{own_frame}
 use Rattle.report.specs.Faults.{first_fault}
 use Rattle.report.specs.Stands.{list_fault, bits_fault, attested_fault}

@@ -9,7 +9,7 @@ ghost use Rattle.frame.specs.Check.{body_answer};
 ghost use Rattle.outbox.specs.Written.{observations};
 ghost use Rattle.report.specs.Whole.{WholeList};
 ghost use Rattle.leader.specs.Listed.{list_of};
-ghost use Rattle.leader.specs.Takes.{same_value, same_entry, same_list};
+ghost use Rattle.leader.specs.Takes.{same_entry, same_list};
 
 use crate::{Leader, listing};
 
@@ -20,12 +20,8 @@ impl Leader {
         requires { (n ≤ members) × (body_answer n 5 body.now ≡ Done) }
         ensures { result ≡ same_list (observations_in (shape_of 5).entry body.now) (list_of n self) }
     {
-        let values = self.values;
-        let observed = self.observed;
-        let line = listing::order(n, &observed, &values);
-        let own = line.members;
-        let end = line.len;
-        same_entries(body, &own[..end], &values)
+        let line = listing::order(n, &self.observed, &self.values);
+        same_entries(body, line.as_slice(), &self.values)
     }
 }
 
@@ -40,13 +36,10 @@ fn same_entries(body: &[u8], own: &[u8], values: &[i64]) -> bool
         return false;
     }
     let stride = frame::stride(5);
-    let mut i: usize = 0;
-    while i < m {
-        let j = own[i];
-        if !same_entry(body, stride, i, j, listing::value_of(values, j)) {
+    for (i, j) in own.iter().enumerate() {
+        if !same_entry(body, stride, i, *j, listing::value_of(values, *j)) {
             return false;
         }
-        i += 1;
     }
     true
 }
@@ -56,11 +49,5 @@ fn same_entry(body: &[u8], stride: usize, i: usize, j: u8, value: i64) -> bool
     requires { ListIn stride i body.now }
     ensures { result ≡ same_entry (get_or (observations_in stride body.now) i no_observation) (record { member = j; value = value }) }
 {
-    (frame::member_at(body, stride, i) == j) & same_value(frame::value_at(body, stride, i), value)
-}
-
-fn same_value(v: i64, w: i64) -> bool
-    ensures { result ≡ same_value v w }
-{
-    (v <= w) & (w <= v)
+    (frame::member_at(body, stride, i) == j) & (frame::value_at(body, stride, i) == value)
 }

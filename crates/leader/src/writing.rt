@@ -9,7 +9,7 @@ use config::Config;
 
 impl Leader {
     // Writes REPORT-REQ with the list.
-    #[tactic(auto, using(crate::proofs::Lines::holds_within, crate::proofs::Marked::order_members))]
+    #[tactic(auto, using(crate::proofs::Marked::order_members, crate::proofs::Marked::order_most))]
     pub fn write_request(
         self,
         config: Config,
@@ -21,25 +21,21 @@ impl Leader {
         requires { (config.n ≤ members) × (signatures_size ≤ length signatures.now) × Fits 4 (length (order config.n self.observed self.values)) 0 outbox.old at }
         ensures { Wrote config (request_of config.n epoch self signatures.now) outbox.old at outbox.new result }
     {
-        let values = self.values;
-        let marks = self.observed;
-        let line = listing::order(config.n, &marks, &values);
-        let list = line.members;
-        let end = line.len;
+        let line = listing::order(config.n, &self.observed, &self.values);
         outbox::write_report_req(
             outbox,
             at,
             config,
             epoch,
             self.round,
-            &list[..end],
-            &values,
+            line.as_slice(),
+            &self.values,
             signatures,
         )
     }
 
     // Writes FINAL with the list and the lowest f + 1 signers.
-    #[tactic(auto, using(crate::proofs::Lines::holds_within, crate::proofs::Marked::order_members, crate::proofs::Marked::lowest_members))]
+    #[tactic(auto, using(crate::proofs::Marked::order_members, crate::proofs::Marked::order_most, crate::proofs::Marked::lowest_members, crate::proofs::Marked::lowest_most))]
     pub fn write_final(
         self,
         config: Config,
@@ -51,15 +47,8 @@ impl Leader {
         requires { (config.n ≤ members) × (signatures_size ≤ length signatures.now) × Fits 6 (length (order config.n self.observed self.values)) (length (lowest_signers config.n config.f self)) outbox.old at }
         ensures { Wrote config (final_of config.n config.f epoch self signatures.now) outbox.old at outbox.new result }
     {
-        let values = self.values;
-        let observed = self.observed;
-        let reported = self.reported;
-        let line = listing::order(config.n, &observed, &values);
-        let list = line.members;
-        let end = line.len;
-        let signed = listing::lowest_signers(config.n, config.f, &reported);
-        let signers = signed.members;
-        let last = signed.len;
+        let list = listing::order(config.n, &self.observed, &self.values);
+        let signers = listing::lowest_signers(config.n, config.f, &self.reported);
         let from = Config::REPORT_SIGNATURES;
         outbox::write_final(
             outbox,
@@ -67,9 +56,9 @@ impl Leader {
             config,
             epoch,
             self.round,
-            &list[..end],
-            &values,
-            &signers[..last],
+            list.as_slice(),
+            &self.values,
+            signers.as_slice(),
             &signatures[from..],
         )
     }

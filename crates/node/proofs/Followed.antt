@@ -20,6 +20,9 @@ use Rattle.config.specs.declared.Config.{Config}
 use Rattle.price.specs.Median.{median_of}
 use Rattle.frame.specs.Message.{Signed, Attested, Message, new_epoch, observe_req, observe, report_req, report, final, final_echo}
 use Rattle.frame.specs.Encode.{attested_bytes}
+use Rattle.frame.specs.declared.kind.Kind.{Kind}
+use Rattle.frame.specs.declared.kind.Kind.TheVariants as kind
+use Rattle.frame.specs.Kinds.{number_of}
 use Rattle.frame.specs.Decode.{round_in, signed_in, attested_in, message_of, body_in, message_in}
 use Rattle.frame.specs.Range.{good_attested}
 use Rattle.frame.specs.Check.{body_answer}
@@ -211,18 +214,12 @@ module _
         rw (handed ∙ (rw (← rule, ← kept) at same), ← rule, ← kept, ← paced) (settles _ _ _ _ wrote)
 
 -- NEWEPOCH, OBSERVE and REPORT are not the follower's
-pub delivering_follows : (w : Whole) (x : Delivery) (kind : ℕ) (b : List ℕ) → 1 ≤ kind → kind ≤ 7 → (kind ≡ 1 → ⊥) → (kind ≡ 3 → ⊥) → (kind ≡ 5 → ⊥) → delivering w x (message_of kind b) ≡ following w x (message_of kind b)
-delivering_follows w x kind b low high p q r =
-    by_kind
-    (λ (m : Message). delivering w x m ≡ following w x m)
-    b
-    kind
-    low
-    high
-    (λ e. absurd (p e))
-    (λ _. refl)
-    (λ e. absurd (q e))
-    (λ _. refl)
-    (λ e. absurd (r e))
-    (λ _. refl)
-    (λ _. refl)
+pub delivering_follows : (w : Whole) (x : Delivery) (k : Kind) (b : List ℕ) → (k ≡ kind.NewEpoch → ⊥) → (k ≡ kind.Observe → ⊥) → (k ≡ kind.Report → ⊥) → delivering w x (message_of (number_of k) b) ≡ following w x (message_of (number_of k) b)
+unfolding message_of
+delivering_follows w x kind.NewEpoch b p q r = absurd (p refl)
+delivering_follows w x kind.ObserveReq b p q r = refl
+delivering_follows w x kind.Observe b p q r = absurd (q refl)
+delivering_follows w x kind.ReportReq b p q r = refl
+delivering_follows w x kind.Report b p q r = absurd (r refl)
+delivering_follows w x kind.Final b p q r = refl
+delivering_follows w x kind.FinalEcho b p q r = refl

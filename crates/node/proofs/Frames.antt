@@ -6,6 +6,7 @@ use Prim.Native.Nat.{ℕ, ◌+◌, ◌-◌, ◌≤◌}
 use native.Mathlib.Nat.{le_refl, le_trans}
 use native.Mathlib.Omega.{arith}
 use lib.ListN.{length, length-append}
+use Rattle.std.specs.Prelude.{Option, None, Some}
 use Rattle.config.specs.Limits.{members, outbox_size}
 use Rattle.config.specs.Answers.{Done}
 use Rattle.config.specs.declared.Config.{Config}
@@ -21,8 +22,6 @@ use Rattle.frame.proofs.Checked.{CheckedFinal, checked_report_req}
 use Rattle.outbox.specs.Written.{Wrote, Fits, own_frame}
 use Rattle.report.specs.Kept.{cleared}
 use Rattle.pacemaker.specs.declared.Paced.{Paced}
-use Rattle.pacemaker.specs.declared.Sent.{Sent}
-use Rattle.pacemaker.specs.declared.Sent.TheVariants as sent
 use Rattle.follower.specs.declared.Handed.{Handed}
 use Rattle.follower.specs.declared.Reply.{Reply}
 use Rattle.follower.specs.declared.Reply.TheVariants as reply
@@ -82,10 +81,10 @@ settles t h kept signatures w = rw (w.frames, w.long)
 abbrev pub announcement_size : ℕ
 announcement_size = 20
 
-pub announced_long : (c : Config) (s : Sent) → length (frames_of c (announced s)) ≤ announcement_size
+pub announced_long : (c : Config) (s : Option ℕ) → length (frames_of c (announced s)) ≤ announcement_size
 unfolding frames_of frame_bytes body_bytes trailer_bytes be_bytes
-announced_long c sent.Nothing = omega arith
-announced_long c (sent.NewEpoch x) = le_refl announcement_size
+announced_long c None = omega arith
+announced_long c (Some x) = le_refl announcement_size
 
 -- a frame of any kind has room, behind a NEWEPOCH as well
 fits : (kind m s : ℕ) (o : List ℕ) (at : ℕ) → m ≤ members → s ≤ members → at + outbox_size ≤ announcement_size + length o → Fits kind m s o at

@@ -17,7 +17,7 @@ use Rattle.frame.specs.Message.{Signed, Attested, Message, new_epoch, observe_re
 use Rattle.frame.specs.Decode.{body_in}
 use Rattle.frame.specs.Claims.{Each}
 use Rattle.frame.proofs.Entries.{each_append}
-use Rattle.report.specs.declared.Fault.TheVariants as fault
+use Rattle.report.specs.Faults as fault
 use Rattle.report.specs.Newer.{newer}
 use Rattle.report.specs.Stands.{values_of}
 use Rattle.report.specs.Whole.{final_length, part_of, report_of}

@@ -19,7 +19,7 @@ use Rattle.frame.specs.Encode.{attested_bytes}
 use Rattle.frame.specs.Claims.{Each}
 use Rattle.frame.proofs.Entries.{each_so}
 use Rattle.frame.proofs.Fronts.{Stands, stands_says}
-use Rattle.report.specs.declared.Fault.TheVariants as fault
+use Rattle.report.specs.Faults as fault
 use Rattle.report.specs.Stands.{values_of, attested_fault}
 use Rattle.report.specs.Kept.{kept_bytes, keeping}
 use Rattle.report.proofs.Kept.{kept_stands}

@@ -21,9 +21,9 @@ use Rattle.frame.specs.Check.{after_sender, other_sender, after_kind, after_vers
 use Rattle.report.proofs.Listed.{In, either_in, body_in_lem}
 use Rattle.pacemaker.specs.State.{is_started}
 use Rattle.pacemaker.specs.Rules as pacemaker
-use Rattle.follower.specs.declared.Finding.{Finding}
-use Rattle.follower.specs.declared.Finding.TheVariants.{Ignored, Wrong, Taken}
-use Rattle.follower.specs.Takes.{finding_of, answer_of}
+use Rattle.std.specs.Prelude.{Ok, Err}
+use Rattle.follower.specs.declared.Objection.TheVariants as objection
+use Rattle.follower.specs.Takes.{Finding, Taken, finding_of, answer_of}
 use Rattle.leader.specs.Takes as leader
 use Rattle.node.specs.declared.Node.{Node}
 use Rattle.node.specs.declared.Fired.{Fired}
@@ -51,9 +51,9 @@ module _ (d : Delivery) where
 
   finding_in : (v : Finding) → In all (answer_of v)
   unfolding number_of
-  finding_in Ignored = refl
-  finding_in (Wrong x) = refl
-  finding_in Taken = refl
+  finding_in (Err objection.Ignored) = refl
+  finding_in (Err (objection.Wrong x)) = refl
+  finding_in (Ok tt) = refl
 
   module _ (n : Node) (j bits : ℕ) where
     follower_in : (m : Message) → In all (follower_answer n j bits m)

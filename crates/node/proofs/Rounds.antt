@@ -9,6 +9,7 @@ use native.Mathlib.Omega.{arith}
 use borrow.Author.Tests.{eqb-true, eqb-false, ltb-false}
 use lib.Dec.{eqb, ltb}
 use lib.IntN.{ℤ}
+use Rattle.std.specs.Prelude.{Option, None, Some}
 use Rattle.config.specs.declared.Config.{Config}
 use Rattle.config.specs.declared.Commit.{Commit}
 use Rattle.config.proofs.Facts.{and-true}
@@ -17,8 +18,6 @@ use Rattle.frame.specs.Message.{Message, new_epoch, observe_req, observe, report
 use Rattle.frame.specs.Claims.{Each}
 use Rattle.frame.proofs.Entries.{each_append}
 use Rattle.report.proofs.Bodies.{none_handed}
-use Rattle.pacemaker.specs.declared.Sent.{Sent}
-use Rattle.pacemaker.specs.declared.Sent.TheVariants as sent
 use Rattle.pacemaker.specs.State.{is_started}
 use Rattle.pacemaker.specs.Rules.{change_leader_of}
 use Rattle.follower.specs.declared.Followed.{Followed}
@@ -71,10 +70,10 @@ module _ (epoch : ℕ) where
   count_append [] ns = omega arith
   count_append (m ∷ ms) ns = omega (arith, count_append ms ns)
 
-  count_announced : (s : Sent) → count_observes epoch (announced s) ≡ 0
+  count_announced : (s : Option ℕ) → count_observes epoch (announced s) ≡ 0
   unfolding count_observes
-  count_announced sent.Nothing = refl
-  count_announced (sent.NewEpoch x) = refl
+  count_announced None = refl
+  count_announced (Some x) = refl
 
   count_asked : (c : Config) (e : ℕ) (l : Leader) (signatures : List ℕ) (a : Asking) → count_observes epoch (asking_for c e l signatures a) ≡ 0
   unfolding count_observes

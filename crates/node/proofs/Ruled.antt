@@ -24,9 +24,9 @@ use Rattle.frame.proofs.Claims.{body_is_one, read_is_good}
 use Rattle.pacemaker.specs.declared.Paced.{Paced}
 use Rattle.pacemaker.specs.Rules as pacemaker
 use Rattle.pacemaker.specs.Runs.{Next, by_newepoch}
-use Rattle.follower.specs.declared.Finding.{Finding}
-use Rattle.follower.specs.declared.Finding.TheVariants.{Ignored, Wrong, Taken}
-use Rattle.follower.specs.Takes.{finding_of, answer_of}
+use Rattle.std.specs.Prelude.{Ok, Err}
+use Rattle.follower.specs.declared.Objection.TheVariants as objection
+use Rattle.follower.specs.Takes.{Finding, Taken, finding_of, answer_of}
 use Rattle.leader.specs.Takes as leader
 use Rattle.leader.specs.Rules.{next_round, no_signatures, closing}
 use Rattle.node.specs.declared.Node.{Node}
@@ -81,9 +81,9 @@ module _ (w : Whole) where
     follower_taken m h = go _ h
       where
         go : (v : Finding) → is_done (answer_of v) ≡ true → v ≡ Taken
-        go Ignored e = absurd (false≢true e)
-        go (Wrong x) e = absurd (false≢true e)
-        go Taken e = refl
+        go (Err objection.Ignored) e = absurd (false≢true e)
+        go (Err (objection.Wrong x)) e = absurd (false≢true e)
+        go (Ok tt) e = refl
 
     leader_taken : (m : Message) → is_done (leader_answer w.node d.link d.bits m) ≡ true → (leader.takes w.node.leader (leads w.node) (epoch_of w.node) d.link m ≡ true) × (leader.stands w.node.config.n w.node.leader d.bits m ≡ true)
     unfolding leader_answer number_of

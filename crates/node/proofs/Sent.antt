@@ -4,6 +4,7 @@ use mathlib.Core.List.{List, ◌∷◌, ◌++◌, map}
 use Prim.Native.Nat.{ℕ}
 use lib.IntN.{ℤ}
 use lib.ListN.{length}
+use Rattle.std.specs.Prelude.{Option, None, Some}
 use Rattle.config.specs.declared.Config.{Config}
 use Rattle.config.specs.declared.Commit.{Commit}
 use Rattle.price.specs.Median.{median_of}
@@ -12,14 +13,12 @@ use Rattle.frame.specs.Message.{Signed, Message, new_epoch, observe_req, observe
 use Rattle.frame.specs.Decode.{message_in}
 use Rattle.frame.specs.Claims.{Each}
 use Rattle.frame.proofs.Entries.{each_append}
-use Rattle.report.specs.declared.Fault.TheVariants as fault
+use Rattle.report.specs.Faults as fault
 use Rattle.report.specs.Stands.{list_fault, bits_fault, values_of}
 use Rattle.report.proofs.Faults.{first_nothing}
 use Rattle.report.proofs.Stands.{bits_fault_nothing}
 use Rattle.pacemaker.specs.declared.Pace.{Pace}
 use Rattle.pacemaker.specs.declared.Paced.{Paced}
-use Rattle.pacemaker.specs.declared.Sent.{Sent}
-use Rattle.pacemaker.specs.declared.Sent.TheVariants as sent
 use Rattle.pacemaker.specs.Rules as pacemaker
 use Rattle.follower.specs.declared.Follower.{Follower}
 use Rattle.follower.specs.declared.Followed.{Followed}
@@ -48,9 +47,9 @@ use Rattle.node.proofs.Cases.{begun_cases}
 
 -- ---- how many
 
-few_announced : (s : Sent) → FewSent (announced s)
-few_announced sent.Nothing = tt
-few_announced (sent.NewEpoch x) = tt
+few_announced : (s : Option ℕ) → FewSent (announced s)
+few_announced None = tt
+few_announced (Some x) = tt
 
 few_asked : (c : Config) (epoch : ℕ) (l : Leader) (signatures : List ℕ) (a : Asking) → FewSent (asking_for c epoch l signatures a)
 few_asked c epoch l signatures asking.Nothing = tt
@@ -59,9 +58,9 @@ few_asked c epoch l signatures asking.Reports = tt
 few_asked c epoch l signatures asking.Final = tt
 
 -- of a move: the NEWEPOCH, if it sends one, stands before the request
-few_moved : (c : Config) (epoch : ℕ) (signatures : List ℕ) (s : Sent) → FewSent (announced s ++ asking_for c epoch (begun c epoch).leader signatures (begun c epoch).asking)
-few_moved c epoch signatures sent.Nothing = few_asked c epoch (begun c epoch).leader signatures (begun c epoch).asking
-few_moved c epoch signatures (sent.NewEpoch x) =
+few_moved : (c : Config) (epoch : ℕ) (signatures : List ℕ) (s : Option ℕ) → FewSent (announced s ++ asking_for c epoch (begun c epoch).leader signatures (begun c epoch).asking)
+few_moved c epoch signatures None = few_asked c epoch (begun c epoch).leader signatures (begun c epoch).asking
+few_moved c epoch signatures (Some x) =
     let P : Led → Type 0 = λ l. FewSent (new_epoch x ∷ asking_for c epoch l.leader signatures l.asking) in
     begun_cases P c epoch (round_cases P c no_round (refl, refl) (refl, refl)) tt
 
@@ -110,9 +109,9 @@ new_epoch_goes_first w e f h = few_ruled (step_ruled w e f h).1
 
 -- ---- for whose signature
 
-pub announced_each : (P : Message → Type 0) (s : Sent) → ((x : ℕ) → s ≡ sent.NewEpoch x → P (new_epoch x)) → Each P (announced s)
-announced_each P sent.Nothing h = tt
-announced_each P (sent.NewEpoch x) h = (h x refl, tt)
+pub announced_each : (P : Message → Type 0) (s : Option ℕ) → ((x : ℕ) → s ≡ Some x → P (new_epoch x)) → Each P (announced s)
+announced_each P None h = tt
+announced_each P (Some x) h = (h x refl, tt)
 
 pub replying_each : (P : Message → Type 0) (v : ℤ) (m : Message) (r : Reply) → Each P (answering v m) → Each P (replying v m r)
 replying_each P v m reply.Nothing p = tt
@@ -133,7 +132,7 @@ unsigned_signs (delivers d) (final a) u = tt
 unsigned_signs (delivers d) (final_echo a) u = tt
 
 module _ (e : Event) where
-  signs_announced : (s : Sent) → Each (Signs e) (announced s)
+  signs_announced : (s : Option ℕ) → Each (Signs e) (announced s)
   signs_announced s = announced_each (Signs e) s (λ x h. unsigned_signs e (new_epoch x) tt)
 
   signs_asked : (c : Config) (epoch : ℕ) (l : Leader) (signatures : List ℕ) (a : Asking) → Each (Signs e) (asking_for c epoch l signatures a)

@@ -20,7 +20,7 @@ use Rattle.pacemaker.specs.Runs.{Next}
 use Rattle.pacemaker.proofs.Claims.{nothing_falls, tells_what_rose}
 use Rattle.follower.specs.declared.Raised.{Raised}
 use Rattle.follower.specs.declared.Raised.TheVariants as raised
-use Rattle.follower.specs.declared.Finding.TheVariants.{Taken}
+use Rattle.follower.specs.Takes.{Taken}
 use Rattle.follower.specs.Takes.{finding_of}
 use Rattle.leader.specs.declared.Led.{Led}
 use Rattle.leader.proofs.Taken.{grace_leads, taken_observe, taken_report}

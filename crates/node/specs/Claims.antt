@@ -19,7 +19,7 @@ use Rattle.frame.specs.Decode.{attested_in, kind_in, message_in}
 use Rattle.frame.specs.Check.{frame_answer}
 use Rattle.frame.specs.Claims.{Each, ReadAs}
 use Rattle.outbox.specs.Written.{own_frame, own_signature}
-use Rattle.report.specs.declared.Fault.TheVariants as fault
+use Rattle.report.specs.Faults as fault
 use Rattle.report.specs.Newer.{newer}
 use Rattle.report.specs.Stands.{attested_fault}
 use Rattle.pacemaker.specs.State.{is_started}

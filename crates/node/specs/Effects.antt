@@ -1,6 +1,6 @@
 -- Document 01, "Pacemaker" and "A round": what each event does that is not refused. The parts' rules are their crates'; here is what they come to together: raised
 -- events run in the same call, a move begins a fresh instance, and what a part asks to be sent becomes a message.
-use Rattle.std.specs.Prelude.{cond, List, [], ◌∷◌, ◌++◌, map, ℕ, eqb, ℤ}
+use Rattle.std.specs.Prelude.{cond, Option, None, Some, List, [], ◌∷◌, ◌++◌, map, ℕ, eqb, ℤ}
 use Rattle.config.specs.Leader.{leader_of}
 use Rattle.config.specs.declared.Config.{Config}
 use Rattle.config.specs.declared.Timer.TheVariants.{Leave, Stop}
@@ -10,8 +10,6 @@ use Rattle.outbox.specs.Written.{own_signature}
 use Rattle.report.specs.Kept.{cleared}
 use Rattle.pacemaker.specs.declared.Pace.{Pace}
 use Rattle.pacemaker.specs.declared.Paced.{Paced}
-use Rattle.pacemaker.specs.declared.Sent.{Sent}
-use Rattle.pacemaker.specs.declared.Sent.TheVariants as sent
 use Rattle.pacemaker.specs.Rules as pacemaker
 use Rattle.follower.specs.declared.Handed.{Handed}
 use Rattle.follower.specs.declared.Raised.{Raised}
@@ -41,9 +39,9 @@ nothing_handed n = record { held = is_set n.follower.kept; start = 0; len = 0 }
 
 -- ---- what is sent
 
-abbrev pub announced : Sent → List Message
-announced sent.Nothing = []
-announced (sent.NewEpoch x) = new_epoch x ∷ []
+abbrev pub announced : Option ℕ → List Message
+announced None = []
+announced (Some x) = new_epoch x ∷ []
 
 -- the leader's requests and its FINAL, of the round that it leads, with signatures from its buffer
 abbrev pub asking_for : Config → ℕ → Leader → List ℕ → Asking → List Message

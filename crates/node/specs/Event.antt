@@ -1,11 +1,14 @@
 -- What happens to a node, and what comes of it.
-use Rattle.std.specs.Prelude.{List, ℕ, ℤ}
+use Rattle.std.specs.Prelude.{◌≡◌, List, ℕ, ◌≤◌, ◌<◌, ℤ, cond, eqb, Result, MatchResult}
 use Rattle.config.specs.Answers.{Answer}
 use Rattle.config.specs.declared.Commit.{Commit}
 use Rattle.frame.specs.Message.{Message}
 use Rattle.follower.specs.declared.Handed.{Handed}
 use Rattle.node.specs.declared.Node.{Node}
+use Rattle.node.specs.declared.Arrival.{Arrival}
 use Rattle.node.specs.declared.Fired.{Fired}
+use Rattle.node.specs.declared.Fired.TheVariants.{Resend, Progress, Round, Grace}
+use Rattle.node.specs.declared.NoTimer.{NoTimer}
 use Rattle.node.specs.declared.Timers.{Timers}
 
 -- a node with the buffers that are its own: the kept report, and the leader's signatures
@@ -29,6 +32,18 @@ pub record Delivery : Type 0 where
 abbrev pub delivery : ℕ → ℕ → ℤ → Commit → ℕ → List ℕ → Delivery
 delivery link time observation commit bits frame =
     record { link = link; time = time; observation = observation; commit = commit; bits = bits; frame = frame }
+
+-- what the host hands over with a delivery
+abbrev pub delivery_of : Arrival → Delivery
+delivery_of a = delivery a.link a.time a.observation a.commit a.bits a.frame.now
+
+-- which timer has fired: 0 T_resend, 1 T_progress, 2 T_round, 3 T_grace; asked of these four alone
+abbrev pub fired_of : ℕ → Fired
+fired_of timer = cond (eqb timer 0) Resend (cond (eqb timer 1) Progress (cond (eqb timer 2) Round Grace))
+
+-- whether this is what a number names: one of the four, or none
+abbrev pub Names : ℕ → Result Fired NoTimer → Type 0
+Names timer named = MatchResult named (λ fired. (timer ≤ 3) × (fired ≡ fired_of timer)) (λ _. 3 < timer)
 
 -- Start at a time, a delivery, or a timer that fires at a time
 pub data Event : Type 0 where

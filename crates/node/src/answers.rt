@@ -2,16 +2,19 @@
 ghost use Rattle.std.specs.Prelude.{◌≡◌, true, ◌<◌};
 ghost use Rattle.config.specs.Bounds.{good_config};
 ghost use Rattle.config.specs.Answers.{Done};
+ghost use Rattle.frame.specs.Kinds.{number_of};
 ghost use Rattle.frame.specs.Decode.{message_of};
 ghost use Rattle.frame.specs.Check.{frame_answer};
 ghost use Rattle.node.specs.State.{leads, good_node, good_state, roomy};
-ghost use Rattle.node.specs.Answers.{start_answer, firing, ending, timer_answer, unarmed_answer, follower_answer, leader_answer, rule_answer, message_answer, delivery_answer, after_state};
+ghost use Rattle.node.specs.Event.{delivers, delivery_of};
+ghost use Rattle.node.specs.Answers.{start_answer, firing, ending, timer_answer, unarmed_answer, follower_answer, leader_answer, rule_answer, message_answer, event_answer, after_state};
 ghost use Rattle.node.specs.Calls.{restore_answer};
 ghost use Rattle.node.specs.Ready.{Sound};
 
-use crate::{Fired, Node};
-use config::{Answer, Commit, Config, Saved};
+use crate::{Arrival, Fired, Node};
+use config::{Answer, Config, Refusal, Saved};
 use follower::Follower;
+use frame::Kind;
 
 // 12, then 2.
 #[tactic(auto, unfolding(crate::specs::Calls::restore_answer))]
@@ -19,12 +22,12 @@ pub(crate) fn restore_answer(config: Config, saved: Saved) -> Answer
     ensures { result ≡ restore_answer config saved }
 {
     if !config.good() {
-        return Answer::Config;
+        return Err(Refusal::Config);
     }
     if saved.highest < saved.epoch {
-        return Answer::State;
+        return Err(Refusal::State);
     }
-    Answer::Done
+    Ok(())
 }
 
 // A timer that is none of the four: 9, 1.
@@ -33,9 +36,9 @@ pub(crate) fn unarmed_answer(time: u64) -> Answer
     ensures { result ≡ unarmed_answer time }
 {
     if config::good_time(time) {
-        return Answer::Ignored;
+        return Err(Refusal::Ignored);
     }
-    Answer::Range
+    Err(Refusal::Range)
 }
 
 // Whether the lent buffers have their sizes, the outbox from the position on.
@@ -84,10 +87,10 @@ impl Node {
         ensures { result ≡ after_state room self kept.now answer }
     {
         if !self.good(kept) {
-            return Answer::State;
+            return Err(Refusal::State);
         }
         if !room {
-            return Answer::Room;
+            return Err(Refusal::Room);
         }
         answer
     }
@@ -99,12 +102,12 @@ impl Node {
     {
         let pace = self.pace;
         if !config::good_time(time) {
-            return Answer::Range;
+            return Err(Refusal::Range);
         }
         if !pace.may_start() {
-            return Answer::Ignored;
+            return Err(Refusal::Ignored);
         }
-        Answer::Done
+        Ok(())
     }
 
     // A timer: 2, 3, then 9, 1, 11.
@@ -112,11 +115,8 @@ impl Node {
     pub(crate) fn timer_answer(self, fired: Fired, time: u64, room: bool, kept: &[u8]) -> Answer
         ensures { result ≡ after_state room self kept.now (timer_answer self fired time) }
     {
-        let answer = self.after_state(room, kept, Answer::Done);
-        if answer.is_done() {
-            return self.fired_answer(fired, time);
-        }
-        answer
+        self.after_state(room, kept, Ok(()))?;
+        self.fired_answer(fired, time)
     }
 
     // A timer: 9, 1, 11.
@@ -126,15 +126,15 @@ impl Node {
         ensures { result ≡ timer_answer self fired time }
     {
         if !config::good_time(time) {
-            return Answer::Range;
+            return Err(Refusal::Range);
         }
         if !self.firing(fired) {
-            return Answer::Ignored;
+            return Err(Refusal::Ignored);
         }
         if self.ending(fired) {
-            return Answer::End;
+            return Err(Refusal::End);
         }
-        Answer::Done
+        Ok(())
     }
 
     // Whether the conditions of a timer's rule hold.
@@ -171,106 +171,88 @@ impl Node {
 
     // A delivery: 2, 3, 4 to 9 of the frame, then what comes after those.
     #[tactic(auto, using(config::proofs::Facts::done_only, crate::proofs::Checks::state_then, crate::proofs::Checks::state_config), unfolding(crate::specs::Answers::delivery_answer))]
-    pub(crate) fn delivery_answer(
-        self,
-        link: u8,
-        time: u64,
-        commit: Commit,
-        bits: u64,
-        frame: &[u8],
-        room: bool,
-        kept: &[u8],
-    ) -> Answer
-        ensures { result ≡ after_state room self kept.now (delivery_answer self link time commit bits frame.now) }
+    pub(crate) fn delivery_answer(self, arrival: Arrival<'_>, room: bool, kept: &[u8]) -> Answer
+        ensures { result ≡ after_state room self kept.now (event_answer self (delivers (delivery_of arrival.entry))) }
     {
-        let answer = self.after_state(room, kept, Answer::Done);
-        if !answer.is_done() {
-            return answer;
-        }
+        self.after_state(room, kept, Ok(()))?;
         let config = self.config;
-        let answer = frame::check(frame, config.n, config.number, link);
-        if !answer.is_done() {
-            return answer;
-        }
-        self.after_frame(link, time, commit, bits, frame)
+        frame::check(arrival.frame, config.n, config.number, arrival.link)?;
+        self.after_frame(arrival)
     }
 
     // 9 of the time and the commit, then 1, 10 and 11 of the message.
     #[tactic(auto, using(frame::proofs::Framed::checked_frame, crate::proofs::Ready::sound_frame), unfolding(crate::specs::Answers::delivery_answer, config::specs::Codes::number_of))]
-    fn after_frame(self, link: u8, time: u64, commit: Commit, bits: u64, frame: &[u8]) -> Answer
-        requires { (good_config self.config ≡ true) × (frame_answer frame.now self.config.n self.config.number link ≡ Done) }
-        ensures { result ≡ delivery_answer self link time commit bits frame.now }
+    fn after_frame(self, arrival: Arrival<'_>) -> Answer
+        requires { (good_config self.config ≡ true) × (frame_answer arrival.frame.now self.config.n self.config.number arrival.link ≡ Done) }
+        ensures { result ≡ event_answer self (delivers (delivery_of arrival.entry)) }
     {
-        if !(config::good_time(time) & commit.good()) {
-            return Answer::Range;
+        if !(config::good_time(arrival.time) & arrival.commit.good()) {
+            return Err(Refusal::Range);
         }
-        let kind = frame::kind_of(frame);
-        self.message_answer(link, bits, kind, frame::body_of(frame))
+        let kind = frame::known_kind(arrival.frame);
+        let body = frame::body_of(arrival.frame);
+        self.message_answer(arrival.link, arrival.bits, kind, body)
     }
 
     // 1 before Start, then 1 and 10 of the rule, then 11.
     #[tactic(auto, unfolding(crate::specs::Answers::message_answer))]
-    fn message_answer(self, j: u8, bits: u64, kind: u8, body: &[u8]) -> Answer
-        requires { Sound self.config j kind body.now }
-        ensures { result ≡ message_answer self j bits (message_of kind body.now) }
+    fn message_answer(self, j: u8, bits: u64, kind: Kind, body: &[u8]) -> Answer
+        requires { Sound self.config j (number_of kind) body.now }
+        ensures { result ≡ message_answer self j bits (message_of (number_of kind) body.now) }
     {
         let config = self.config;
         let pace = self.pace;
         if pace.may_start() {
-            return Answer::Ignored;
+            return Err(Refusal::Ignored);
         }
-        let answer = self.rule_answer(j, bits, kind, body);
-        if !answer.is_done() {
-            return answer;
-        }
+        self.rule_answer(j, bits, kind, body)?;
         if Follower::halts(config, kind, body) & pace.past_end() {
-            return Answer::End;
+            return Err(Refusal::End);
         }
-        Answer::Done
+        Ok(())
     }
 
     // 1 and 10, by the message's kind.
     #[tactic(auto, unfolding(frame::specs::Decode::message_of))]
-    fn rule_answer(self, j: u8, bits: u64, kind: u8, body: &[u8]) -> Answer
-        requires { Sound self.config j kind body.now }
-        ensures { result ≡ rule_answer self j bits (message_of kind body.now) }
+    fn rule_answer(self, j: u8, bits: u64, kind: Kind, body: &[u8]) -> Answer
+        requires { Sound self.config j (number_of kind) body.now }
+        ensures { result ≡ rule_answer self j bits (message_of (number_of kind) body.now) }
     {
         match kind {
-            1 => Answer::Done,
-            3 => self.leader_answer(j, bits, kind, body),
-            5 => self.leader_answer(j, bits, kind, body),
+            Kind::NewEpoch => Ok(()),
+            Kind::Observe | Kind::Report => self.leader_answer(j, bits, kind, body),
             _ => self.follower_answer(j, bits, kind, body),
         }
     }
 
     #[tactic(auto, using(crate::proofs::Ready::members_most), unfolding(crate::specs::Answers::follower_answer))]
-    fn follower_answer(self, j: u8, bits: u64, kind: u8, body: &[u8]) -> Answer
-        requires { Sound self.config j kind body.now }
-        ensures { result ≡ follower_answer self j bits (message_of kind body.now) }
+    fn follower_answer(self, j: u8, bits: u64, kind: Kind, body: &[u8]) -> Answer
+        requires { Sound self.config j (number_of kind) body.now }
+        ensures { result ≡ follower_answer self j bits (message_of (number_of kind) body.now) }
     {
         let config = self.config;
         let pace = self.pace;
         let follower = self.follower;
         let leader = config::leader_of(config.n, pace.epoch);
-        let finding = follower.finding(config, pace.epoch, leader, j, kind, body, bits);
-        finding.answer()
+        follower.finding(config, pace.epoch, leader, j, kind, body, bits)?;
+        Ok(())
     }
 
     #[tactic(auto, using(crate::proofs::Ready::members_most), unfolding(crate::specs::Answers::leader_answer))]
-    fn leader_answer(self, j: u8, bits: u64, kind: u8, body: &[u8]) -> Answer
-        requires { Sound self.config j kind body.now }
-        ensures { result ≡ leader_answer self j bits (message_of kind body.now) }
+    fn leader_answer(self, j: u8, bits: u64, kind: Kind, body: &[u8]) -> Answer
+        requires { Sound self.config j (number_of kind) body.now }
+        ensures { result ≡ leader_answer self j bits (message_of (number_of kind) body.now) }
     {
         let config = self.config;
         let pace = self.pace;
         let leader = self.leader;
         if !leader.takes(config.n, self.leads(), pace.epoch, j, kind, body) {
-            return Answer::Ignored;
+            return Err(Refusal::Ignored);
         }
         if !leader.stands(config.n, bits, kind, body) {
-            return Answer::Proof;
+            return Err(Refusal::Proof);
         }
-        Answer::Done
+        Ok(())
     }
 
     // Whether this node has started, its instance is not halted, and it is the leader.

@@ -6,7 +6,7 @@ mod rules;
 mod writing;
 
 ghost use Rattle.std.specs.Prelude.{◌≡◌};
-ghost use Rattle.node.specs.Event.{delivery, starts, delivers, fires};
+ghost use Rattle.node.specs.Event.{delivery_of, starts, delivers, fires, Names};
 ghost use Rattle.node.specs.Effects.{nothing_handed};
 ghost use Rattle.node.specs.Calls.{restore_of, fresh_of, out, refusing, doing, call_of, unarmed_of};
 
@@ -35,6 +35,40 @@ pub enum Fired {
     Progress,
     Round,
     Grace,
+}
+
+// A number that names none of the four timers.
+#[derive(Clone, Copy, PartialEq, Eq)]
+pub struct NoTimer;
+
+impl TryFrom<u8> for Fired {
+    type Error = NoTimer;
+
+    ghost try_from_gives = { Names };
+
+    fn try_from(number: u8) -> Result<Self, NoTimer> {
+        match number {
+            0 => Ok(Fired::Resend),
+            1 => Ok(Fired::Progress),
+            2 => Ok(Fired::Round),
+            3 => Ok(Fired::Grace),
+            _ => Err(NoTimer),
+        }
+    }
+}
+
+// A frame that has come over the link of a member, and what the host says with it.
+#[derive(Clone, Copy)]
+pub struct Arrival<'a> {
+    pub link: u8,
+    pub time: u64,
+    // the host's own observation
+    pub observation: i64,
+    // the contract's last commit
+    pub commit: Commit,
+    // verdict bits of the signatures in the frame
+    pub bits: u64,
+    pub frame: &'a [u8],
 }
 
 // What becomes of each timer.
@@ -111,44 +145,29 @@ impl Node {
     {
         let room = answers::roomy(outbox.len(), at, kept.len(), signatures.len());
         let answer = self.after_state(room, kept, self.start_answer(time));
-        if answer.is_done() {
+        if answer.is_ok() {
             let pace = self.pace;
             return self.pacing(pace.start(), outbox, at);
         }
         self.refusing(answer)
     }
 
-    // A frame has come over the link of a member, at a time, with the host's observation, the contract's last commit and verdict bits.
+    // A frame has come over the link of a member.
     #[tactic(auto, using(crate::proofs::Ready::ready_delivery), unfolding(crate::specs::Calls::called))]
     pub fn deliver(
         self,
-        link: u8,
-        time: u64,
-        observation: i64,
-        commit: Commit,
-        bits: u64,
-        frame: &[u8],
+        arrival: Arrival<'_>,
         outbox: &mut [u8],
         at: usize,
         kept: &mut [u8],
         signatures: &mut [u8],
     ) -> Outcome
-        ensures { out result outbox.new kept.new signatures.new ≡ call_of self (delivers (delivery link time observation commit bits frame.now)) outbox.old at kept.old signatures.old }
+        ensures { out result outbox.new kept.new signatures.new ≡ call_of self (delivers (delivery_of arrival.entry)) outbox.old at kept.old signatures.old }
     {
         let room = answers::roomy(outbox.len(), at, kept.len(), signatures.len());
-        let answer = self.delivery_answer(link, time, commit, bits, frame, room, &kept[..]);
-        if answer.is_done() {
-            return self.delivering(
-                link,
-                time,
-                observation,
-                commit,
-                frame,
-                outbox,
-                at,
-                kept,
-                signatures,
-            );
+        let answer = self.delivery_answer(arrival, room, &kept[..]);
+        if answer.is_ok() {
+            return self.delivering(arrival, outbox, at, kept, signatures);
         }
         self.refusing(answer)
     }
@@ -168,7 +187,7 @@ impl Node {
     {
         let room = answers::roomy(outbox.len(), at, kept.len(), signatures.len());
         let answer = self.timer_answer(fired, time, room, kept);
-        if answer.is_done() {
+        if answer.is_ok() {
             return self.timing(fired, outbox, at, signatures);
         }
         self.refusing(answer)
@@ -212,7 +231,7 @@ impl Node {
         ensures { result ≡ doing self written timers handed }
     {
         Outcome {
-            answer: Answer::Done,
+            answer: Ok(()),
             node: self,
             written,
             timers,

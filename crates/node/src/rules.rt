@@ -2,18 +2,20 @@
 ghost use Rattle.std.specs.Prelude.{◌≡◌, true, false, List, ℕ, ◌+◌, ◌≤◌, ◌<◌, length};
 ghost use Rattle.config.specs.Limits.{last_epoch, outbox_size, kept_size, signatures_size};
 ghost use Rattle.config.specs.Bounds.{good_config};
+ghost use Rattle.frame.specs.Kinds.{number_of};
 ghost use Rattle.frame.specs.Decode.{message_of, message_in};
 ghost use Rattle.outbox.specs.Written.{Fits};
 ghost use Rattle.leader.specs.Rules.{no_signatures};
-ghost use Rattle.node.specs.Event.{whole, delivery};
+ghost use Rattle.node.specs.Event.{whole, delivery_of};
 ghost use Rattle.node.specs.Answers.{ending};
 ghost use Rattle.node.specs.Effects.{raising, begun, pacing, moving, hearing, following, paced_timers, led_timers, moved_timers, leading, led_by, delivering, timing};
 ghost use Rattle.node.specs.Calls.{out, settled};
 ghost use Rattle.node.specs.Ready.{Room, Sound, Taken};
 
-use crate::{Fired, Node, Outcome, Timers, writing};
-use config::{Commit, Config, Timer};
+use crate::{Arrival, Fired, Node, Outcome, Timers, writing};
+use config::{Config, Timer};
 use follower::{Follower, Raised};
+use frame::Kind;
 use leader::{Asking, Leader, Led};
 use pacemaker::{Pace, Paced};
 
@@ -22,26 +24,26 @@ impl Node {
     #[tactic(auto, using(frame::proofs::Framed::checked_frame, frame::proofs::Checked::checked_newepoch, crate::proofs::Ready::sound_frame), unfolding(frame::specs::Decode::message_of))]
     pub(crate) fn delivering(
         self,
-        link: u8,
-        time: u64,
-        observation: i64,
-        commit: Commit,
-        frame: &[u8],
+        arrival: Arrival<'_>,
         outbox: &mut [u8],
         at: usize,
         kept: &mut [u8],
         signatures: &mut [u8],
     ) -> Outcome
-        requires { Taken self link frame.now kept.old × Room outbox.old at kept.old signatures.old }
-        ensures { (bits : ℕ) → out result outbox.new kept.new signatures.new ≡ settled (delivering (whole self kept.old signatures.old) (delivery link time observation commit bits frame.now) (message_in frame.now)) outbox.old at }
+        requires { Taken self arrival.link arrival.frame.now kept.old × Room outbox.old at kept.old signatures.old }
+        ensures { out result outbox.new kept.new signatures.new ≡ settled (delivering (whole self kept.old signatures.old) (delivery_of arrival.entry) (message_in arrival.entry.frame.now)) outbox.old at }
     {
-        let kind = frame::kind_of(frame);
-        let body = frame::body_of(frame);
+        let kind = frame::known_kind(arrival.frame);
+        let body = frame::body_of(arrival.frame);
+        let link = arrival.link;
         match kind {
-            1 => self.hearing(link, frame::epoch_of(body), outbox, at, kept, signatures),
-            3 => self.led_by(link, kind, body, outbox, at, signatures),
-            5 => self.led_by(link, kind, body, outbox, at, signatures),
-            _ => self.following(link, time, observation, commit, frame, outbox, at, kept),
+            Kind::NewEpoch => {
+                self.hearing(link, frame::epoch_of(body), outbox, at, kept, signatures)
+            }
+            Kind::Observe | Kind::Report => {
+                self.led_by(link, kind, body, outbox, at, signatures)
+            }
+            _ => self.following(arrival, outbox, at, kept),
         }
     }
 
@@ -127,24 +129,28 @@ impl Node {
     #[tactic(auto, using(frame::proofs::Framed::checked_frame, crate::proofs::Ready::members_most, crate::proofs::Ready::sound_frame, crate::proofs::Frames::announced_long, crate::proofs::Followed::leader_changes), unfolding(frame::specs::Table::body_length))]
     fn following(
         self,
-        link: u8,
-        time: u64,
-        observation: i64,
-        commit: Commit,
-        frame: &[u8],
+        arrival: Arrival<'_>,
         outbox: &mut [u8],
         at: usize,
         kept: &mut [u8],
     ) -> Outcome
-        requires { Taken self link frame.now kept.old × (at + outbox_size ≤ length outbox.old) × (kept_size ≤ length kept.old) }
-        ensures { (bits : ℕ) (signatures : List ℕ) → out result outbox.new kept.new signatures ≡ settled (following (whole self kept.old signatures) (delivery link time observation commit bits frame.now) (message_in frame.now)) outbox.old at }
+        requires { Taken self arrival.link arrival.frame.now kept.old × (at + outbox_size ≤ length outbox.old) × (kept_size ≤ length kept.old) }
+        ensures { (signatures : List ℕ) → out result outbox.new kept.new signatures ≡ settled (following (whole self kept.old signatures) (delivery_of arrival.entry) (message_in arrival.entry.frame.now)) outbox.old at }
     {
         let config = self.config;
         let follower = self.follower;
         let held = follower.kept;
-        let kind = frame::kind_of(frame);
-        let body = frame::body_of(frame);
-        let followed = follower.follow(config, link, kind, body, time, commit, kept);
+        let kind = frame::known_kind(arrival.frame);
+        let body = frame::body_of(arrival.frame);
+        let followed = follower.follow(
+            config,
+            arrival.link,
+            kind,
+            body,
+            arrival.time,
+            arrival.commit,
+            kept,
+        );
         let handed = follower::handed_of(followed.handed, held, &kept[..], body);
         let raised = followed.raised;
         let reply = followed.reply;
@@ -155,7 +161,7 @@ impl Node {
         let replied = writing::write_reply(
             config,
             reply,
-            observation,
+            arrival.observation,
             kind,
             body,
             outbox,
@@ -175,14 +181,14 @@ impl Node {
     fn led_by(
         self,
         j: u8,
-        kind: u8,
+        kind: Kind,
         body: &[u8],
         outbox: &mut [u8],
         at: usize,
         signatures: &mut [u8],
     ) -> Outcome
-        requires { Sound self.config j kind body.now × (at + outbox_size ≤ length outbox.old) × (signatures_size ≤ length signatures.old) }
-        ensures { (kept : List ℕ) → out result outbox.new kept signatures.new ≡ settled (led_by (whole self kept signatures.old) j (message_of kind body.now)) outbox.old at }
+        requires { Sound self.config j (number_of kind) body.now × (at + outbox_size ≤ length outbox.old) × (signatures_size ≤ length signatures.old) }
+        ensures { (kept : List ℕ) → out result outbox.new kept signatures.new ≡ settled (led_by (whole self kept signatures.old) j (message_of (number_of kind) body.now)) outbox.old at }
     {
         let leader = self.leader;
         let led = leader.lead(self.config, j, kind, body, signatures);

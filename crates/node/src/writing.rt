@@ -2,6 +2,7 @@
 ghost use Rattle.std.specs.Prelude.{◌≡◌, ◌≤◌, length};
 ghost use Rattle.config.specs.Limits.{members, signatures_size};
 ghost use Rattle.config.specs.Answers.{Done};
+ghost use Rattle.frame.specs.Kinds.{number_of};
 ghost use Rattle.frame.specs.Decode.{message_of};
 ghost use Rattle.frame.specs.Check.{body_answer};
 ghost use Rattle.outbox.specs.Written.{Fits};
@@ -10,17 +11,22 @@ ghost use Rattle.node.specs.Ready.{WroteAll, AskingFits, Answers, ReplyFits};
 
 use config::Config;
 use follower::Reply;
+use frame::Kind;
 use leader::{Asking, Leader};
-use pacemaker::Sent;
 
 // Writes the NEWEPOCH that the pacemaker sends, if it does.
-pub(crate) fn write_announced(config: Config, sent: Sent, outbox: &mut [u8], at: usize) -> usize
+pub(crate) fn write_announced(
+    config: Config,
+    sent: Option<u32>,
+    outbox: &mut [u8],
+    at: usize,
+) -> usize
     requires { Fits 1 0 0 outbox.old at }
     ensures { WroteAll config (announced sent) outbox.old at outbox.new result }
 {
     match sent {
-        Sent::Nothing => 0,
-        Sent::NewEpoch(x) => outbox::write_newepoch(outbox, at, config, x),
+        None => 0,
+        Some(x) => outbox::write_newepoch(outbox, at, config, x),
     }
 }
 
@@ -53,13 +59,13 @@ pub(crate) fn write_reply(
     config: Config,
     reply: Reply,
     observation: i64,
-    kind: u8,
+    kind: Kind,
     body: &[u8],
     outbox: &mut [u8],
     at: usize,
 ) -> usize
-    requires { (body_answer config.n kind body.now ≡ Done) × Answers reply kind × ReplyFits reply body.now outbox.old at }
-    ensures { WroteAll config (replying observation (message_of kind body.now) reply) outbox.old at outbox.new result }
+    requires { (body_answer config.n (number_of kind) body.now ≡ Done) × Answers reply (number_of kind) × ReplyFits reply body.now outbox.old at }
+    ensures { WroteAll config (replying observation (message_of (number_of kind) body.now) reply) outbox.old at outbox.new result }
 {
     match reply {
         Reply::Nothing => 0,

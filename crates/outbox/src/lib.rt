@@ -12,6 +12,16 @@ ghost use Rattle.outbox.specs.Written.{Wrote, Fits, own_signature, signature_of,
 
 use config::Config;
 
+// What n members have said and signed, by member.
+#[derive(Clone, Copy)]
+struct Tables<'a> {
+    n: u8,
+    values: &'a [i64],
+    signatures: &'a [u8],
+    ghost has_values: { HasValues n values.now },
+    ghost has_signatures: { HasSignatures n signatures.now },
+}
+
 pub fn write_newepoch(outbox: &mut [u8], at: usize, config: Config, epoch: u32) -> usize
     requires { Fits 1 0 0 outbox.old at }
     ensures { Wrote config (new_epoch epoch) outbox.old at outbox.new result }
@@ -64,15 +74,12 @@ pub fn write_report_req(
     requires { Fits 4 (length order.now) 0 outbox.old at × (length order.now ≤ 255) × Members config.n order.now × HasValues config.n values.now × HasSignatures config.n signatures.now }
     ensures { Wrote config (report_req epoch round (signed_observations order.now values.now signatures.now)) outbox.old at outbox.new result }
 {
-    let n = put_report_req(
-        &mut outbox[at..],
-        config.n,
-        epoch,
-        round,
-        order,
+    let tables = Tables {
+        n: config.n,
         values,
         signatures,
-    );
+    };
+    let n = put_report_req(&mut outbox[at..], epoch, round, order, tables);
     put_trailer(&mut outbox[at..], n, config, 4)
 }
 
@@ -100,16 +107,12 @@ pub fn write_final(
     requires { Fits 6 (length order.now) (length signers.now) outbox.old at × (length order.now ≤ 255) × (length signers.now ≤ 255) × Members config.n order.now × HasValues config.n values.now × Members config.n signers.now × HasSignatures config.n signatures.now }
     ensures { Wrote config (final (record { epoch = epoch; round = round; list = observations order.now values.now; signers = signers_of signers.now signatures.now })) outbox.old at outbox.new result }
 {
-    let n = put_final(
-        &mut outbox[at..],
-        config.n,
-        epoch,
-        round,
-        order,
+    let tables = Tables {
+        n: config.n,
         values,
-        signers,
         signatures,
-    );
+    };
+    let n = put_final(&mut outbox[at..], epoch, round, order, signers, tables);
     put_trailer(&mut outbox[at..], n, config, 6)
 }
 
@@ -129,7 +132,7 @@ fn put_newepoch(out: &mut [u8], epoch: u32) -> usize
     requires { body_length 1 0 0 ≤ length out.old }
     ensures { (out.new ≡ over out.old 0 (body_bytes (new_epoch epoch))) × (result ≡ body_length 1 0 0) }
 {
-    wire::put_u32(out, 0, epoch);
+    wire::write(out, 0, epoch);
     frame::body_length(1, 0, 0)
 }
 
@@ -137,7 +140,7 @@ fn put_head(out: &mut [u8], epoch: u32, round: u8) -> usize
     requires { body_length 2 0 0 ≤ length out.old }
     ensures { (out.new ≡ over out.old 0 (head_bytes epoch round)) × (result ≡ body_length 2 0 0) }
 {
-    wire::put_u32(out, 0, epoch);
+    wire::write(out, 0, epoch);
     out[4] = round;
     frame::body_length(2, 0, 0)
 }
@@ -147,26 +150,18 @@ fn put_observe(out: &mut [u8], epoch: u32, round: u8, value: i64) -> usize
     ensures { (out.new ≡ over out.old 0 (body_bytes (observe epoch round value own_signature))) × (result ≡ body_length 3 0 0) }
 {
     let p = put_head(out, epoch, round);
-    wire::put_i64(out, p, value);
+    wire::write(out, p, value);
     wire::zero(out, p + 8, Config::SIGNATURE);
     frame::body_length(3, 0, 0)
 }
 
-fn put_report_req(
-    out: &mut [u8],
-    n: u8,
-    epoch: u32,
-    round: u8,
-    order: &[u8],
-    values: &[i64],
-    signatures: &[u8],
-) -> usize
-    requires { (body_length 4 (length order.now) 0 ≤ length out.old) × (length order.now ≤ 255) × Members n order.now × HasValues n values.now × HasSignatures n signatures.now }
-    ensures { (out.new ≡ over out.old 0 (body_bytes (report_req epoch round (signed_observations order.now values.now signatures.now)))) × (result ≡ body_length 4 (length order.now) 0) }
+fn put_report_req(out: &mut [u8], epoch: u32, round: u8, order: &[u8], tables: Tables) -> usize
+    requires { (body_length 4 (length order.now) 0 ≤ length out.old) × (length order.now ≤ 255) × Members tables.n order.now }
+    ensures { (out.new ≡ over out.old 0 (body_bytes (report_req epoch round (signed_observations order.now tables.entry.values.now tables.entry.signatures.now)))) × (result ≡ body_length 4 (length order.now) 0) }
 {
     let p = put_head(out, epoch, round);
     out[p] = order.len() as u8;
-    put_signed(out, p + 1, n, order, values, signatures)
+    put_signed(out, p + 1, order, tables)
 }
 
 fn put_report(out: &mut [u8], body: &[u8]) -> usize
@@ -181,22 +176,20 @@ fn put_report(out: &mut [u8], body: &[u8]) -> usize
 
 fn put_final(
     out: &mut [u8],
-    n: u8,
     epoch: u32,
     round: u8,
     order: &[u8],
-    values: &[i64],
     signers: &[u8],
-    signatures: &[u8],
+    tables: Tables,
 ) -> usize
-    requires { (body_length 6 (length order.now) (length signers.now) ≤ length out.old) × (length order.now ≤ 255) × (length signers.now ≤ 255) × Members n order.now × HasValues n values.now × Members n signers.now × HasSignatures n signatures.now }
-    ensures { (out.new ≡ over out.old 0 (body_bytes (final (record { epoch = epoch; round = round; list = observations order.now values.now; signers = signers_of signers.now signatures.now })))) × (result ≡ body_length 6 (length order.now) (length signers.now)) }
+    requires { (body_length 6 (length order.now) (length signers.now) ≤ length out.old) × (length order.now ≤ 255) × (length signers.now ≤ 255) × Members tables.n order.now × Members tables.n signers.now }
+    ensures { (out.new ≡ over out.old 0 (body_bytes (final (record { epoch = epoch; round = round; list = observations order.now tables.entry.values.now; signers = signers_of signers.now tables.entry.signatures.now })))) × (result ≡ body_length 6 (length order.now) (length signers.now)) }
 {
     let p = put_head(out, epoch, round);
     out[p] = order.len() as u8;
-    let q = put_observations(out, p + 1, n, order, values);
+    let q = put_observations(out, p + 1, order, tables);
     out[q] = signers.len() as u8;
-    put_signers(out, q + 1, n, signers, signatures)
+    put_signers(out, q + 1, signers, tables)
 }
 
 // A body as it stands.
@@ -211,61 +204,45 @@ fn put_copy(out: &mut [u8], body: &[u8]) -> usize
 // ---- lists, from a place of a slice on; each answers the place behind the list
 
 #[tactic(auto, using(crate::proofs::Runs::member_at, crate::proofs::Runs::run_end), unfolding(frame::specs::Table::shape_of, frame::specs::Table::table))]
-fn put_observations(out: &mut [u8], at: usize, n: u8, order: &[u8], values: &[i64]) -> usize
-    requires { (at + length order.now * (shape_of 6).entry ≤ length out.old) × Members n order.now × HasValues n values.now }
-    ensures { (out.new ≡ over out.old at (flat observation_bytes (observations order.now values.now))) × (result ≡ at + length order.now * (shape_of 6).entry) }
+fn put_observations(out: &mut [u8], at: usize, order: &[u8], tables: Tables) -> usize
+    requires { (at + length order.now * (shape_of 6).entry ≤ length out.old) × Members tables.n order.now }
+    ensures { (out.new ≡ over out.old at (flat observation_bytes (observations order.now tables.entry.values.now))) × (result ≡ at + length order.now * (shape_of 6).entry) }
 {
     let stride = frame::stride(6);
     let mut p = at;
-    let mut i: usize = 0;
-    while i < order.len() {
-        let j = order[i];
-        put_observation(out, p, j, values);
+    for j in order {
+        put_observation(out, p, *j, tables.values);
         p += stride;
-        i += 1;
     }
     p
 }
 
 #[tactic(auto, using(crate::proofs::Runs::member_at, crate::proofs::Runs::run_end), unfolding(frame::specs::Table::shape_of, frame::specs::Table::table))]
-fn put_signed(
-    out: &mut [u8],
-    at: usize,
-    n: u8,
-    order: &[u8],
-    values: &[i64],
-    signatures: &[u8],
-) -> usize
-    requires { (at + length order.now * (shape_of 4).entry ≤ length out.old) × Members n order.now × HasValues n values.now × HasSignatures n signatures.now }
-    ensures { (out.new ≡ over out.old at (flat signed_bytes (signed_observations order.now values.now signatures.now))) × (result ≡ at + length order.now * (shape_of 4).entry) }
+fn put_signed(out: &mut [u8], at: usize, order: &[u8], tables: Tables) -> usize
+    requires { (at + length order.now * (shape_of 4).entry ≤ length out.old) × Members tables.n order.now }
+    ensures { (out.new ≡ over out.old at (flat signed_bytes (signed_observations order.now tables.entry.values.now tables.entry.signatures.now))) × (result ≡ at + length order.now * (shape_of 4).entry) }
 {
     let stride = frame::stride(4);
     let mut p = at;
-    let mut i: usize = 0;
-    while i < order.len() {
-        let j = order[i];
-        put_observation(out, p, j, values);
-        put_signature(out, p + frame::stride(6), j, signatures);
+    for j in order {
+        put_observation(out, p, *j, tables.values);
+        put_signature(out, p + frame::stride(6), *j, tables.signatures);
         p += stride;
-        i += 1;
     }
     p
 }
 
 #[tactic(auto, using(crate::proofs::Runs::run_end), unfolding(frame::specs::Table::shape_of, frame::specs::Table::table))]
-fn put_signers(out: &mut [u8], at: usize, n: u8, signers: &[u8], signatures: &[u8]) -> usize
-    requires { (at + length signers.now * (shape_of 6).signer ≤ length out.old) × Members n signers.now × HasSignatures n signatures.now }
-    ensures { (out.new ≡ over out.old at (flat signer_bytes (signers_of signers.now signatures.now))) × (result ≡ at + length signers.now * (shape_of 6).signer) }
+fn put_signers(out: &mut [u8], at: usize, signers: &[u8], tables: Tables) -> usize
+    requires { (at + length signers.now * (shape_of 6).signer ≤ length out.old) × Members tables.n signers.now }
+    ensures { (out.new ≡ over out.old at (flat signer_bytes (signers_of signers.now tables.entry.signatures.now))) × (result ≡ at + length signers.now * (shape_of 6).signer) }
 {
     let stride = frame::signer_stride();
     let mut p = at;
-    let mut i: usize = 0;
-    while i < signers.len() {
-        let j = signers[i];
-        out[p] = j;
-        put_signature(out, p + 1, j, signatures);
+    for j in signers {
+        out[p] = *j;
+        put_signature(out, p + 1, *j, tables.signatures);
         p += stride;
-        i += 1;
     }
     p
 }
@@ -276,14 +253,11 @@ fn put_said(out: &mut [u8], body: &[u8]) -> usize
     requires { (list_place + count_in body.now * (shape_of 5).entry ≤ length out.old) × (length body.now ≡ body_length 4 (count_in body.now) 0) }
     ensures { (out.new ≡ over out.old list_place (flat observation_bytes (observations_in (shape_of 4).entry body.now))) × (result ≡ list_place + count_in body.now * (shape_of 5).entry) }
 {
-    let m = frame::count_of(body);
     let stride = frame::stride(5);
     let mut p = frame::LIST;
-    let mut i: usize = 0;
-    while i < m {
+    for i in 0..frame::count_of(body) {
         wire::copy(out, p, body, frame::LIST + i * frame::stride(4), stride);
         p += stride;
-        i += 1;
     }
     p
 }
@@ -296,7 +270,7 @@ fn put_observation(out: &mut [u8], at: usize, j: u8, values: &[i64])
 {
     let place = j as usize - 1;
     out[at] = j;
-    wire::put_i64(out, at + 1, values[place]);
+    wire::write(out, at + 1, values[place]);
 }
 
 // Member j's signature.
@@ -315,8 +289,8 @@ fn put_trailer(out: &mut [u8], n: usize, config: Config, kind: u8) -> usize
 {
     out[n] = kind;
     out[n + 1] = config.own;
-    wire::put_u16(out, n + 2, frame::version(config.n));
-    wire::put_u32(out, n + 4, n as u32);
-    wire::put_u64(out, n + 8, config.number);
+    wire::write(out, n + 2, frame::version(config.n));
+    wire::write(out, n + 4, n as u32);
+    wire::write(out, n + 8, config.number);
     n + frame::TRAILER
 }

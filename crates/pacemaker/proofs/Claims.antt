@@ -8,6 +8,7 @@ use native.Mathlib.Omega.{arith}
 use borrow.Author.Tests.{ltb-true, ltb-false, le-ltb}
 use lib.Dec.{ltb, eqb}
 use lib.ListN.{take, get_or}
+use Rattle.std.specs.Prelude.{None, Some}
 use Rattle.config.specs.Limits.{members, last_epoch}
 use Rattle.config.proofs.Facts.{and-true}
 use Rattle.quorum.specs.Counts.{count_above, count_reaching, reached}
@@ -15,7 +16,6 @@ use Rattle.quorum.proofs.Cases.{either}
 use Rattle.quorum.proofs.Counts.{Below, none, some, reached_reach, reached_anti, raise_max}
 use Rattle.pacemaker.specs.declared.Pace.{Pace}
 use Rattle.pacemaker.specs.declared.Paced.{Paced}
-use Rattle.pacemaker.specs.declared.Sent.TheVariants.{Nothing, NewEpoch}
 use Rattle.pacemaker.specs.State.{restored_pace, fresh_pace, good_pace, is_started, resend_armed}
 use Rattle.pacemaker.specs.Rules.{hear, heard_by, hearing, amplifying, moving, start_of, resend_of, change_leader_of, past_end, progress_of, new_epoch_of}
 use Rattle.pacemaker.specs.Runs.{Heard, run, highest_from, Next, by_start, by_resend, by_change, by_progress, by_newepoch, Lived, begun, then}
@@ -144,13 +144,13 @@ pub tells_what_rose : TellsWhatRose
 tells_what_rose n f p j x =
     record {
       moved = moved_is n f p j x ∙ ap (λ (q : Pace). ltb p.epoch q.epoch) (sym (step_is n f p j x));
-      sent = sent_is n f p j x ∙ ap (λ (q : Pace). cond (ltb p.highest q.highest) (NewEpoch q.highest) Nothing) (sym (step_is n f p j x));
+      sent = sent_is n f p j x ∙ ap (λ (q : Pace). cond (ltb p.highest q.highest) (Some q.highest) None) (sym (step_is n f p j x));
     }
 
-sends_own : (r : Paced) → r.sent ≡ NewEpoch r.pace.highest → 0 < r.pace.highest → Sends r
+sends_own : (r : Paced) → r.sent ≡ Some r.pace.highest → 0 < r.pace.highest → Sends r
 sends_own r e h = record { highest = λ y s. cc; some = λ y s. let same : y ≡ r.pace.highest = cc in omega arith }
 
-sends_nothing : (r : Paced) → r.sent ≡ Nothing → Sends r
+sends_nothing : (r : Paced) → r.sent ≡ None → Sends r
 sends_nothing r e = record { highest = λ y s. cc; some = λ y s. let z : ◌≡◌ {A = ℕ} 0 1 = cc in omega arith }
 
 pub sends_its_highest : SendsItsHighest
@@ -163,7 +163,7 @@ sends_its_highest n f p =
       new_epoch = λ j x. told (new_epoch_of n f p j x) _ refl (tells_what_rose n f p j x).sent;
     }
   where
-    told : (r : Paced) (b : Bool) → ltb p.highest r.pace.highest ≡ b → r.sent ≡ cond b (NewEpoch r.pace.highest) Nothing → Sends r
+    told : (r : Paced) (b : Bool) → ltb p.highest r.pace.highest ≡ b → r.sent ≡ cond b (Some r.pace.highest) None → Sends r
     told r true e s = sends_own r s (omega (arith, ltb-true))
     told r false e s = sends_nothing r s
 
@@ -275,7 +275,7 @@ unfolding start_of run new_epoch_of hearing amplifying moving
 backed_by_two = (no_putsch 4 1 (run 4 1 begins (says 2 7 ∷ [])) 4 6).highest (omega arith)
 
 -- and has the node send 6, which becomes its highest; the third moves it
-six_sent : (new_epoch_of 4 1 (run 4 1 begins (says 2 7 ∷ [])) 4 6).sent ≡ NewEpoch 6
+six_sent : (new_epoch_of 4 1 (run 4 1 begins (says 2 7 ∷ [])) 4 6).sent ≡ Some 6
 unfolding start_of run new_epoch_of hearing amplifying moving
 six_sent = (tells_what_rose 4 1 (run 4 1 begins (says 2 7 ∷ [])) 4 6).sent
 

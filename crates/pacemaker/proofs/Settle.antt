@@ -9,11 +9,11 @@ use borrow.Author.Tests.{ltb-true, ltb-false, lt-ltb, le-ltb, eqb-true, eqb-fals
 use lib.Dec.{ltb, eqb}
 use lib.ListN.{length, take, get_or, length-set}
 use lib.Seq.{get_or-set_same, get_or-set_other, ext_get_or}
+use Rattle.std.specs.Prelude.{None, Some}
 use Rattle.quorum.specs.Counts.{count_above, reached}
 use Rattle.quorum.proofs.Cases.{cases, split}
 use Rattle.quorum.proofs.Counts.{Below, below_refl, below_trans, below_take, below_set, reached_most, reached_mono, reached_anti, raise_max}
 use Rattle.pacemaker.specs.declared.Pace.{Pace}
-use Rattle.pacemaker.specs.declared.Sent.TheVariants.{Nothing, NewEpoch}
 use Rattle.pacemaker.specs.Rules.{stays, sending, heard_by, hear, hearing, amplifying, entering, moving, new_epoch_of}
 use Rattle.pacemaker.specs.Runs.{Heard, FromMembers, run, highest_from}
 
@@ -96,14 +96,14 @@ module _ (n f : ℕ) where
       ∙ move_is _ (omega (arith, reached_anti f (2 * f) (take n (hear p.heard j x)) (omega arith)))
 
   -- what it tells: the node sends where its highest number rises, and moves where its epoch rises
-  amplify_tells : (p : Pace) → let h = max p.highest (reached f (heard_by n p)) in (amplifying n f p).sent ≡ cond (ltb p.highest h) (NewEpoch h) Nothing
+  amplify_tells : (p : Pace) → let h = max p.highest (reached f (heard_by n p)) in (amplifying n f p).sent ≡ cond (ltb p.highest h) (Some h) None
   unfolding amplifying
   amplify_tells p =
       go (ltb f (count_above p.highest (heard_by n p))) (raise_max f p.highest (heard_by n p))
-      ∙ ap (λ b. cond b (NewEpoch (max p.highest (reached f (heard_by n p)))) Nothing) (rises_is f p.highest (heard_by n p))
+      ∙ ap (λ b. cond b (Some (max p.highest (reached f (heard_by n p)))) None) (rises_is f p.highest (heard_by n p))
     where
-      go : (b : Bool) {h : ℕ} → cond b (reached f (heard_by n p)) p.highest ≡ h → (cond b (sending p (reached f (heard_by n p))) (stays p)).sent ≡ cond b (NewEpoch h) Nothing
-      go true e = ap NewEpoch e
+      go : (b : Bool) {h : ℕ} → cond b (reached f (heard_by n p)) p.highest ≡ h → (cond b (sending p (reached f (heard_by n p))) (stays p)).sent ≡ cond b (Some h) None
+      go true e = ap Some e
       go false e = refl
 
   move_tells : (p : Pace) → (moving n f p).moved ≡ ltb p.epoch (max p.epoch (reached (2 * f) (heard_by n p)))
@@ -114,7 +114,7 @@ module _ (n f : ℕ) where
       go true = refl
       go false = refl
 
-  pub sent_is : (p : Pace) (j x : ℕ) → let h = (settle n f p (hear p.heard j x)).highest in (new_epoch_of n f p j x).sent ≡ cond (ltb p.highest h) (NewEpoch h) Nothing
+  pub sent_is : (p : Pace) (j x : ℕ) → let h = (settle n f p (hear p.heard j x)).highest in (new_epoch_of n f p j x).sent ≡ cond (ltb p.highest h) (Some h) None
   unfolding new_epoch_of hearing
   sent_is p j x = amplify_tells (hearing p j x)
 

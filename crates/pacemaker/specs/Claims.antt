@@ -1,11 +1,10 @@
 -- What a reader may quote of the pacemaker: each claim is a type, proved in `proofs/Claims.antt`.
-use Rattle.std.specs.Prelude.{◌≡◌, true, false, cond, List, ℕ, ◌-◌, ◌*◌, ◌≤◌, ◌<◌, max, ltb, get_or}
+use Rattle.std.specs.Prelude.{◌≡◌, true, false, cond, None, Some, List, ℕ, ◌-◌, ◌*◌, ◌≤◌, ◌<◌, max, ltb, get_or}
 use Rattle.config.specs.Limits.{members, last_epoch}
 use Rattle.config.specs.declared.Saved.{Saved}
 use Rattle.quorum.specs.Counts.{count_above, count_reaching, reached}
 use Rattle.pacemaker.specs.declared.Pace.{Pace}
 use Rattle.pacemaker.specs.declared.Paced.{Paced}
-use Rattle.pacemaker.specs.declared.Sent.TheVariants.{Nothing, NewEpoch}
 use Rattle.pacemaker.specs.State.{restored_pace, good_pace}
 use Rattle.pacemaker.specs.Rules.{start_of, resend_of, fires_resend, change_leader_of, past_end, progress_of, heard_by, new_epoch_of}
 use Rattle.pacemaker.specs.Runs.{Heard, FromMembers, run, highest_from, Next, Lived}
@@ -93,8 +92,8 @@ FewMoveNothing =
 
 -- What a rule sends is the highest number sent from then on, and above 0; T_resend has sent before.
 pub record Sends (r : Paced) : Type 0 where
-  pub highest : (y : ℕ) → r.sent ≡ NewEpoch y → y ≡ r.pace.highest
-  pub some : (y : ℕ) → r.sent ≡ NewEpoch y → 0 < y
+  pub highest : (y : ℕ) → r.sent ≡ Some y → y ≡ r.pace.highest
+  pub some : (y : ℕ) → r.sent ≡ Some y → 0 < y
 
 pub record AllSend (n f : ℕ) (p : Pace) : Type 0 where
   pub start : Sends (start_of p)
@@ -108,7 +107,7 @@ SendsItsHighest = (n f : ℕ) (p : Pace) → AllSend n f p
 -- A NEWEPOCH moves the node exactly where its epoch rises, and has it send exactly where its highest number rises.
 pub record Told (p : Pace) (r : Paced) : Type 0 where
   pub moved : r.moved ≡ ltb p.epoch r.pace.epoch
-  pub sent : r.sent ≡ cond (ltb p.highest r.pace.highest) (NewEpoch r.pace.highest) Nothing
+  pub sent : r.sent ≡ cond (ltb p.highest r.pace.highest) (Some r.pace.highest) None
 
 abbrev pub TellsWhatRose : Type 0
 TellsWhatRose = (n f : ℕ) (p : Pace) (j x : ℕ) → Told p (new_epoch_of n f p j x)

@@ -1,17 +1,16 @@
 -- Document 01, "Pacemaker" (000, Algorithm 1): what each event does. A rule takes the state it finds and gives the new one, with
 -- what is sent, which timers start or stop, and whether the node moves to a new epoch.
-use Rattle.std.specs.Prelude.{Bool, true, false, not, cond, ◌&&◌, List, ℕ, ◌+◌, ◌-◌, ◌*◌, max, ltb, get_or, set, take}
+use Rattle.std.specs.Prelude.{Bool, true, false, not, cond, ◌&&◌, None, Some, List, ℕ, ◌+◌, ◌-◌, ◌*◌, max, ltb, get_or, set, take}
 use Rattle.config.specs.Limits.{last_epoch}
 use Rattle.config.specs.declared.Timer.TheVariants.{Leave, Start, Stop}
 use Rattle.quorum.specs.Counts.{count_above, reached}
 use Rattle.pacemaker.specs.declared.Pace.{Pace}
 use Rattle.pacemaker.specs.declared.Paced.{Paced}
-use Rattle.pacemaker.specs.declared.Sent.TheVariants.{Nothing, NewEpoch}
 use Rattle.pacemaker.specs.State.{is_started, progress_armed, resend_armed}
 
 -- nothing happens
 abbrev pub stays : Pace → Paced
-stays p = record { pace = p; sent = Nothing; progress = Leave; resend = Leave; moved = false }
+stays p = record { pace = p; sent = None; progress = Leave; resend = Leave; moved = false }
 
 -- ---- sending
 
@@ -27,7 +26,7 @@ with_progress p armed =
 
 -- "Sending x: write NEWEPOCH x, highest sent becomes x, restart T_resend."
 abbrev pub sending : Pace → ℕ → Paced
-sending p x = record { pace = raised p x; sent = NewEpoch x; progress = Leave; resend = Start; moved = false }
+sending p x = record { pace = raised p x; sent = Some x; progress = Leave; resend = Start; moved = false }
 
 -- ---- Start, T_resend, T_progress, changeleader, progress
 
@@ -38,7 +37,7 @@ now_started p =
 -- "Start: send max(1, highest sent); start T_progress."
 unfoldable pub start_of : Pace → Paced
 start_of p =
-    record { pace = with_progress (now_started (raised p (max 1 p.highest))) 1; sent = NewEpoch (max 1 p.highest); progress = Start; resend = Start; moved = false }
+    record { pace = with_progress (now_started (raised p (max 1 p.highest))) 1; sent = Some (max 1 p.highest); progress = Start; resend = Start; moved = false }
 
 -- "Start twice" is ignored
 abbrev pub may_start : Pace → Bool
@@ -55,7 +54,7 @@ fires_resend p = is_started p && resend_armed p && ltb 0 p.highest
 -- "T_progress or changeleader: stop T_progress, send max(epoch+1, highest sent)."
 unfoldable pub change_leader_of : Pace → Paced
 change_leader_of p =
-    record { pace = with_progress (raised p (max (p.epoch + 1) p.highest)) 0; sent = NewEpoch (max (p.epoch + 1) p.highest); progress = Stop; resend = Start; moved = false }
+    record { pace = with_progress (raised p (max (p.epoch + 1) p.highest)) 0; sent = Some (max (p.epoch + 1) p.highest); progress = Stop; resend = Start; moved = false }
 
 -- T_progress, when it fires, asks the same as any timer; changeleader is raised and asks nothing
 abbrev pub fires_progress : Pace → Bool
@@ -67,7 +66,7 @@ past_end p = ltb last_epoch (p.epoch + 1)
 
 -- "Progress: restart T_progress."
 unfoldable pub progress_of : Pace → Paced
-progress_of p = record { pace = with_progress p 1; sent = Nothing; progress = Start; resend = Leave; moved = false }
+progress_of p = record { pace = with_progress p 1; sent = None; progress = Start; resend = Leave; moved = false }
 
 -- ---- NEWEPOCH x from j
 
@@ -97,7 +96,7 @@ in_epoch p e =
     record { epoch = e; highest = max p.highest e; heard = p.heard; started = p.started; progress = 1; resend = p.resend }
 
 abbrev pub entering : Pace → ℕ → Paced
-entering p e = record { pace = in_epoch p e; sent = Nothing; progress = Start; resend = Leave; moved = true }
+entering p e = record { pace = in_epoch p e; sent = None; progress = Start; resend = Leave; moved = true }
 
 -- whether and where to a node moves goes by its epoch and what it has heard alone
 abbrev pub moves : ℕ → ℕ → List ℕ → Bool

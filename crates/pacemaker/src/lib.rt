@@ -28,18 +28,12 @@ pub struct Pace {
     pub resend: u8,
 }
 
-// What a rule has the node send.
-#[derive(Clone, Copy)]
-pub enum Sent {
-    Nothing,
-    NewEpoch(u32),
-}
-
 // What a rule did.
 #[derive(Clone, Copy)]
 pub struct Paced {
     pub pace: Pace,
-    pub sent: Sent,
+    // the number of the NEWEPOCH that the node sends; none where it sends nothing
+    pub sent: Option<u32>,
     // what becomes of T_progress and of T_resend
     pub progress: Timer,
     pub resend: Timer,
@@ -109,10 +103,9 @@ impl Pace {
             started: 1,
             ..with_progress(self, 1)
         };
-        let sent = sending(p, larger(1, self.highest));
         Paced {
             progress: Timer::Start,
-            ..sent
+            ..sending(p, self.highest.max(1))
         }
     }
 
@@ -131,10 +124,9 @@ impl Pace {
         ensures { result ≡ change_leader_of self }
     {
         let p = with_progress(self, 0);
-        let sent = sending(p, larger(self.epoch + 1, self.highest));
         Paced {
             progress: Timer::Stop,
-            ..sent
+            ..sending(p, self.highest.max(self.epoch + 1))
         }
     }
 
@@ -144,10 +136,9 @@ impl Pace {
         ensures { result ≡ progress_of self }
     {
         let p = with_progress(self, 1);
-        let quiet = stays(p);
         Paced {
             progress: Timer::Start,
-            ..quiet
+            ..stays(p)
         }
     }
 
@@ -157,12 +148,13 @@ impl Pace {
         requires { (1 ≤ j) × (j ≤ n) × (n ≤ members) }
         ensures { result ≡ new_epoch_of n f self j x }
     {
-        let a = self.hear(j, x).amplify(n, f);
-        let p = a.pace;
-        let m = p.move_on(n, f);
-        let sent = a.sent;
-        let resend = a.resend;
-        Paced { sent, resend, ..m }
+        let amplified = self.hear(j, x).amplify(n, f);
+        let moved = amplified.pace.move_on(n, f);
+        Paced {
+            sent: amplified.sent,
+            resend: amplified.resend,
+            ..moved
+        }
     }
 
     // Member j has sent x.
@@ -171,10 +163,9 @@ impl Pace {
         requires { (1 ≤ j) × (j ≤ members) }
         ensures { result ≡ hearing self j x }
     {
-        let place = j as usize - 1;
+        let place = usize::from(j) - 1;
         let mut heard = self.heard;
-        let last = heard[place];
-        heard[place] = larger(last, x);
+        heard[place] = heard[place].max(x);
         Pace { heard, ..self }
     }
 
@@ -184,10 +175,9 @@ impl Pace {
         requires { n ≤ members }
         ensures { result ≡ amplifying n f self }
     {
-        let heard = self.heard;
-        let more = f as usize;
-        if more < count_above(heard, n, self.highest) {
-            return sending(self, reached(heard, n, more));
+        let more = usize::from(f);
+        if more < count_above(self.heard, n, self.highest) {
+            return sending(self, reached(self.heard, n, more));
         }
         stays(self)
     }
@@ -198,10 +188,9 @@ impl Pace {
         requires { n ≤ members }
         ensures { result ≡ moving n f self }
     {
-        let heard = self.heard;
-        let more = 2 * (f as usize);
-        if more < count_above(heard, n, self.epoch) {
-            return in_epoch(self, reached(heard, n, more));
+        let more = 2 * usize::from(f);
+        if more < count_above(self.heard, n, self.epoch) {
+            return in_epoch(self, reached(self.heard, n, more));
         }
         stays(self)
     }
@@ -213,7 +202,7 @@ pub fn stays(p: Pace) -> Paced
 {
     Paced {
         pace: p,
-        sent: Sent::Nothing,
+        sent: None,
         progress: Timer::Leave,
         resend: Timer::Leave,
         moved: false,
@@ -240,11 +229,9 @@ fn sending(p: Pace, x: u32) -> Paced
         ..p
     };
     Paced {
-        pace,
-        sent: Sent::NewEpoch(x),
-        progress: Timer::Leave,
+        sent: Some(x),
         resend: Timer::Start,
-        moved: false,
+        ..stays(pace)
     }
 }
 
@@ -254,16 +241,14 @@ fn in_epoch(p: Pace, e: u32) -> Paced
 {
     let pace = Pace {
         epoch: e,
-        highest: larger(p.highest, e),
+        highest: p.highest.max(e),
         progress: 1,
         ..p
     };
     Paced {
-        pace,
-        sent: Sent::Nothing,
         progress: Timer::Start,
-        resend: Timer::Leave,
         moved: true,
+        ..stays(pace)
     }
 }
 
@@ -272,8 +257,7 @@ fn count_above(heard: [u32; Config::MEMBERS], n: u8, x: u32) -> usize
     requires { n ≤ members }
     ensures { result ≡ count_above x (take n heard) }
 {
-    let end = n as usize;
-    quorum::count_above(&heard[..end], x)
+    quorum::count_above(&heard[..usize::from(n)], x)
 }
 
 // The largest number that more than k of the n members have reached.
@@ -281,12 +265,5 @@ fn reached(heard: [u32; Config::MEMBERS], n: u8, k: usize) -> u32
     requires { n ≤ members }
     ensures { result ≡ reached k (take n heard) }
 {
-    let end = n as usize;
-    quorum::reached(&heard[..end], k)
-}
-
-fn larger(a: u32, b: u32) -> u32
-    ensures { result ≡ max a b }
-{
-    if a < b { b } else { a }
+    quorum::reached(&heard[..usize::from(n)], k)
 }

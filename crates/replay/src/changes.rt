@@ -1,73 +1,90 @@
 // What a call has changed: every byte of it is printed, and takes the place of the one before.
-ghost use Rattle.std.specs.Prelude.{◌+◌, ◌≤◌, length};
+ghost use Rattle.std.specs.Prelude.{◌≡◌, ◌+◌, ◌<◌, ◌≤◌, length, IfSome};
+ghost use Rattle.image.specs.Memory.{memory_size, room_of};
 
-use crate::lines;
+use image::memory::{Buffer, Memory};
 use std::io;
 use std::io::Print;
 
 // What stands at a place becomes this; what has changed is printed.
 pub fn settle<R: Print>(
     rt: &R,
-    bytes: &mut [u8],
-    letter: u8,
+    memory: &mut Memory,
+    letter: char,
     at: usize,
     after: &[u8],
 ) -> io::Result<()>
-    requires { at + length after.now ≤ length bytes.old }
+    requires { at + length after.now ≤ memory_size }
 {
-    changes(rt, letter, &bytes[..], at, after)?;
-    wire::copy(bytes, at, after, 0, after.len());
+    let end = at + after.len();
+    changes(rt, letter, &memory.bytes[at..end], after)?;
+    memory.bytes[at..end].copy_from_slice(after);
     Ok(())
 }
 
-// The runs of bytes in which what comes after differs from what stands at a place, behind the letter of the thing; nothing where there are
-// none.
-fn changes<R: Print>(rt: &R, letter: u8, bytes: &[u8], at: usize, after: &[u8]) -> io::Result<()>
-    requires { at + length after.now ≤ length bytes.now }
+// The same, of a buffer.
+pub fn settle_buffer<R: Print>(
+    rt: &R,
+    memory: &mut Memory,
+    buffer: Buffer,
+    after: &[u8],
+) -> io::Result<()>
+    requires { length after.now ≤ room_of buffer }
 {
-    let first = next(bytes, at, after, 0, false);
-    if first == after.len() {
-        return Ok(());
+    settle(rt, memory, letter_of(buffer), buffer.place(), after)
+}
+
+fn letter_of(buffer: Buffer) -> char {
+    match buffer {
+        Buffer::Outbox => 'o',
+        Buffer::Kept => 'k',
+        Buffer::Signatures => 'g',
+        Buffer::Waiting => 'w',
     }
-    lines::say(rt, b' ')?;
-    lines::say(rt, letter)?;
-    runs(rt, bytes, at, after, first)
+}
+
+// The runs of bytes in which what comes after differs from what was before, behind the letter of the thing; nothing where there are none.
+fn changes<R: Print>(rt: &R, letter: char, before: &[u8], after: &[u8]) -> io::Result<()>
+    requires { length before.now ≡ length after.now }
+{
+    let Some(first) = next(before, after, 0, false) else {
+        return Ok(());
+    };
+    print!(rt; " {letter}")?;
+    runs(rt, before, after, first)
 }
 
 // The runs from a changed byte on.
-fn runs<R: Print>(rt: &R, bytes: &[u8], at: usize, after: &[u8], first: usize) -> io::Result<()>
-    requires { (at + length after.now ≤ length bytes.now) × (first ≤ length after.now) }
+fn runs<R: Print>(rt: &R, before: &[u8], after: &[u8], first: usize) -> io::Result<()>
+    requires { (length before.now ≡ length after.now) × (first < length after.now) }
 {
-    let mut i = first;
-    while i < after.len() {
-        let end = next(bytes, at, after, i + 1, true);
-        run(rt, after, i, end)?;
-        i = next(bytes, at, after, end, false);
+    let mut start = first;
+    loop {
+        let end = next(before, after, start + 1, true).unwrap_or(after.len());
+        run(rt, after, start, end)?;
+        let Some(next_start) = next(before, after, end, false) else {
+            return Ok(());
+        };
+        start = next_start;
     }
-    Ok(())
 }
 
-// The first byte from a place on that is the same as before, or that is not; the length where there is none.
-fn next(bytes: &[u8], at: usize, after: &[u8], from: usize, same: bool) -> usize
-    requires { (at + length after.now ≤ length bytes.now) × (from ≤ length after.now) }
-    ensures { (from ≤ result) × (result ≤ length after.now) }
+// The first byte from a place on that is the same as before, or that is not.
+fn next(before: &[u8], after: &[u8], from: usize, same: bool) -> Option<usize>
+    requires { (length before.now ≡ length after.now) × (from ≤ length after.now) }
+    ensures { IfSome result (λ i. (from ≤ i) × (i < length after.now)) }
 {
-    let mut i = from;
-    while i < after.len() {
-        if (bytes[at + i] == after[i]) == same {
-            return i;
-        }
-        i += 1;
-    }
-    i
+    before[from..]
+        .iter()
+        .zip(&after[from..])
+        .position(|(b, a)| (b == a) == same)
+        .map(|i| from + i)
 }
 
 // One run: its place, and its bytes.
-fn run<R: Print>(rt: &R, after: &[u8], first: usize, end: usize) -> io::Result<()>
+fn run<R: Print>(rt: &R, after: &[u8], start: usize, end: usize) -> io::Result<()>
     requires { end ≤ length after.now }
 {
-    lines::say(rt, b'@')?;
-    lines::decimal(rt, first as u64)?;
-    lines::say(rt, b':')?;
-    show::hex(rt, after, first, end)
+    print!(rt; "@{start}:")?;
+    show::hex(rt, after, start, end)
 }

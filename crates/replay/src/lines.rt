@@ -7,82 +7,53 @@ use std::io;
 use std::io::Print;
 
 // The start of a line: the letter of the call and its code.
-pub fn begin<R: Print>(rt: &R, letter: u8, answer: Answer) -> io::Result<()> {
-    say(rt, letter)?;
-    show::number(rt, answer.number() as u64)
+pub fn begin<R: Print>(rt: &R, letter: char, answer: Answer) -> io::Result<()> {
+    let code = answer.number();
+    print!(rt; "{letter} {code}")
 }
 
 pub fn end<R: Print>(rt: &R) -> io::Result<()> {
-    say(rt, b'\n')
+    println!(rt)
 }
 
 // The results of a node's call.
 pub fn outcome<R: Print>(rt: &R, outcome: Outcome) -> io::Result<()> {
-    show::number(rt, outcome.written as u64)?;
+    print!(rt; " {}", outcome.written)?;
     timers(rt, outcome.timers)?;
     handed(rt, outcome.handed)
 }
 
 fn timers<R: Print>(rt: &R, timers: Timers) -> io::Result<()> {
-    let resend = timers.resend;
-    let progress = timers.progress;
-    let round = timers.round;
-    let grace = timers.grace;
-    say(rt, b' ')?;
-    timer(rt, resend)?;
-    timer(rt, progress)?;
-    timer(rt, round)?;
-    timer(rt, grace)
+    let resend = timer(timers.resend);
+    let progress = timer(timers.progress);
+    let round = timer(timers.round);
+    let grace = timer(timers.grace);
+    print!(rt; " {resend}{progress}{round}{grace}")
 }
 
-fn timer<R: Print>(rt: &R, timer: Timer) -> io::Result<()> {
+fn timer(timer: Timer) -> char {
     match timer {
-        Timer::Leave => say(rt, b'-'),
-        Timer::Start => say(rt, b's'),
-        Timer::Stop => say(rt, b'x'),
+        Timer::Leave => '-',
+        Timer::Start => 's',
+        Timer::Stop => 'x',
     }
 }
 
 fn handed<R: Print>(rt: &R, handed: Handed) -> io::Result<()> {
-    say(rt, b' ')?;
-    if handed.held {
-        say(rt, b'k')?;
-    } else {
-        say(rt, b'f')?;
-    }
-    place(rt, handed.start, handed.len)
+    let from = if handed.held { 'k' } else { 'f' };
+    print!(rt; " {from}{}+{}", handed.start, handed.len)
 }
 
 // What becomes of T_transmit.
 pub fn transmit<R: Print>(rt: &R, transmit: Transmit) -> io::Result<()> {
-    say(rt, b' ')?;
     match transmit {
-        Transmit::Leave => say(rt, b'-'),
-        Transmit::Set(x) => {
-            say(rt, b's')?;
-            decimal(rt, x)
-        }
-        Transmit::Stop => say(rt, b'x'),
+        Transmit::Leave => print!(rt; " -"),
+        Transmit::Set(x) => print!(rt; " s{x}"),
+        Transmit::Stop => print!(rt; " x"),
     }
 }
 
 // The part of the slots that a timeout hands out.
 pub fn part<R: Print>(rt: &R, part: Part) -> io::Result<()> {
-    say(rt, b' ')?;
-    place(rt, part.start, part.len)
-}
-
-fn place<R: Print>(rt: &R, start: usize, len: usize) -> io::Result<()> {
-    decimal(rt, start as u64)?;
-    say(rt, b'+')?;
-    decimal(rt, len as u64)
-}
-
-pub fn decimal<R: Print>(rt: &R, x: u64) -> io::Result<()> {
-    rt.print(x)
-}
-
-pub fn say<R: Print>(rt: &R, letter: u8) -> io::Result<()> {
-    let text = [letter];
-    rt.write_all(&text)
+    print!(rt; " {}+{}", part.start, part.len)
 }

@@ -9,21 +9,10 @@ mod node_calls;
 mod node_image;
 mod sender_calls;
 
-ghost use Rattle.std.specs.Prelude.{◌≤◌, length, IfOk};
-ghost use Rattle.image.specs.Memory.{memory_size, Within};
-ghost use Rattle.replay.specs.Records.{longest_record};
-
 use image::memory;
-use image::memory::Lengths;
+use image::memory::{Buffer, Memory};
 use std::io;
 use std::io::{Input, Print};
-
-// What a record came to: whether the run goes on, and how long the buffers are.
-#[derive(Clone, Copy)]
-struct Turn {
-    more: bool,
-    lengths: Lengths,
-}
 
 // The bytes before those of a record: its letter and its length.
 const HEAD: usize = 5;
@@ -32,163 +21,57 @@ const HEAD: usize = 5;
 const RECORD: usize = 65536;
 
 fn main(rt: HostRuntime) -> io::Result<()> {
-    let mut bytes = [0u8; memory::SIZE];
-    let mut lengths = Lengths {
-        outbox: 0,
-        kept: 0,
-        signatures: 0,
-        waiting: 0,
-    };
-    let mut turns = u64::MAX;
-    while turns > 0 {
-        let turn = take_turn(&rt, &mut bytes, lengths)?;
-        if !turn.more {
-            return Ok(());
+    let mut memory = Memory::new();
+    for _ in 0..u64::MAX {
+        if !take_turn(&rt, &mut memory)? {
+            break;
         }
-        lengths = turn.lengths;
-        turns -= 1;
     }
     Ok(())
 }
 
-// One record; the run ends where the input does. An error, here and in what this calls, is that of reading or printing: `bytes` may then
-// hold the record's changes in part, and `main` ends with it.
-fn take_turn<R: Input + Print>(
-    rt: &R,
-    bytes: &mut [u8; memory::SIZE],
-    lengths: Lengths,
-) -> io::Result<Turn>
-    requires { Within lengths }
-    ensures { IfOk result (λ turn. Within turn.lengths) }
-{
+// One record; false where the run ends, as it does where the input does. An error, here and in what this calls, is that of reading or
+// printing: `memory` may then hold the record's changes in part, and `main` ends with it.
+fn take_turn<R: Input + Print>(rt: &R, memory: &mut Memory) -> io::Result<bool> {
     let mut head = [0u8; HEAD];
     if show::read_full(rt, &mut head)? < HEAD {
-        return Ok(ended(lengths));
+        return Ok(false);
     }
-    let n = length_in(&head);
+    let n = wire::read::<u32>(&head, 1) as usize;
     if RECORD < n {
-        return Ok(ended(lengths));
+        return Ok(false);
     }
-    take_record(rt, bytes, lengths, letter_in(&head), n)
-}
-
-// The n bytes of a record.
-fn take_record<R: Input + Print>(
-    rt: &R,
-    bytes: &mut [u8; memory::SIZE],
-    lengths: Lengths,
-    letter: u8,
-    n: usize,
-) -> io::Result<Turn>
-    requires { Within lengths × (n ≤ longest_record) }
-    ensures { IfOk result (λ turn. Within turn.lengths) }
-{
-    let mut said = [0u8; RECORD];
-    if show::read_full(rt, &mut said[..n])? < n {
-        return Ok(ended(lengths));
+    let mut record = [0u8; RECORD];
+    let said = &mut record[..n];
+    if show::read_full(rt, said)? < n {
+        return Ok(false);
     }
-    obey_first(rt, bytes, lengths, letter, &said, n)
+    obey(rt, memory, head[0], said)
 }
 
-// The record is the first n bytes of a buffer.
-fn obey_first<R: Print>(
-    rt: &R,
-    bytes: &mut [u8],
-    lengths: Lengths,
-    letter: u8,
-    said: &[u8; RECORD],
-    n: usize,
-) -> io::Result<Turn>
-    requires { (memory_size ≤ length bytes.old) × Within lengths × (n ≤ longest_record) }
-    ensures { IfOk result (λ turn. Within turn.lengths) }
-{
-    let all: &[u8] = said;
-    obey(rt, bytes, lengths, letter, &all[..n])
-}
-
-fn letter_in(head: &[u8; HEAD]) -> u8 {
-    head[0]
-}
-
-fn length_in(head: &[u8; HEAD]) -> usize {
-    wire::get_u32(head, 1) as usize
-}
-
-// By the letter: a buffer is set, an image is set, or a call is made.
-fn obey<R: Print>(
-    rt: &R,
-    bytes: &mut [u8],
-    lengths: Lengths,
-    letter: u8,
-    said: &[u8],
-) -> io::Result<Turn>
-    requires { (memory_size ≤ length bytes.old) × Within lengths }
-    ensures { IfOk result (λ turn. Within turn.lengths) }
-{
+// By the letter: a buffer is set, an image is set, or a call is made. False where the letter is none, or the record is not as long as the
+// letter's.
+fn obey<R: Print>(rt: &R, memory: &mut Memory, letter: u8, said: &[u8]) -> io::Result<bool> {
     match letter {
-        b'o' | b'k' | b'g' | b'w' => Ok(fill(bytes, lengths, letter, said)),
-        b'n' | b's' | b'c' => Ok(Turn {
-            more: put(bytes, letter, said),
-            lengths,
-        }),
-        _ => Ok(Turn {
-            more: call(rt, bytes, lengths, letter, said)?,
-            lengths,
-        }),
-    }
-}
-
-// A buffer is set, if there is room for it.
-fn fill(bytes: &mut [u8], lengths: Lengths, letter: u8, said: &[u8]) -> Turn
-    requires { (memory_size ≤ length bytes.old) × Within lengths }
-    ensures { Within result.lengths }
-{
-    let n = said.len();
-    if memory::room(letter) < n {
-        return ended(lengths);
-    }
-    wire::copy(bytes, memory::place(letter), said, 0, n);
-    Turn {
-        more: true,
-        lengths: memory::resized(lengths, letter, n),
-    }
-}
-
-fn ended(lengths: Lengths) -> Turn
-    requires { Within lengths }
-    ensures { Within result.lengths }
-{
-    Turn {
-        more: false,
-        lengths,
-    }
-}
-
-// An image is set; false where the record is not as long as the image.
-fn put(bytes: &mut [u8], letter: u8, said: &[u8]) -> bool
-    requires { memory_size ≤ length bytes.old }
-{
-    match letter {
-        b'n' => memory::put(bytes, memory::NODE_AT, image::NODE, said),
-        b's' => memory::put(bytes, memory::SENDER_AT, image::SENDER, said),
-        _ => memory::put(bytes, memory::CONTRACT_AT, image::CONTRACT, said),
-    }
-}
-
-// A call is made; false where the letter is none, or the record is not as long as the letter's.
-fn call<R: Print>(
-    rt: &R,
-    bytes: &mut [u8],
-    lengths: Lengths,
-    letter: u8,
-    said: &[u8],
-) -> io::Result<bool>
-    requires { (memory_size ≤ length bytes.old) × Within lengths }
-{
-    match letter {
-        b'F' | b'R' | b'S' | b'D' | b'T' => node_calls::call(rt, bytes, lengths, letter, said),
-        b'f' | b'X' | b'O' => sender_calls::call(rt, bytes, lengths, letter, said),
-        b'm' | b'B' | b'P' | b'W' => contract_calls::call(rt, bytes, letter, said),
+        b'o' => Ok(memory.fill(Buffer::Outbox, said)),
+        b'k' => Ok(memory.fill(Buffer::Kept, said)),
+        b'g' => Ok(memory.fill(Buffer::Signatures, said)),
+        b'w' => Ok(memory.fill(Buffer::Waiting, said)),
+        b'n' => Ok(memory.put(memory::NODE_AT, image::NODE, said)),
+        b's' => Ok(memory.put(memory::SENDER_AT, image::SENDER, said)),
+        b'c' => Ok(memory.put(memory::CONTRACT_AT, image::CONTRACT, said)),
+        b'F' => node_calls::fresh(rt, memory, said),
+        b'R' => node_calls::restore(rt, memory, said),
+        b'S' => node_calls::start(rt, memory, said),
+        b'D' => node_calls::deliver(rt, memory, said),
+        b'T' => node_calls::timer(rt, memory, said),
+        b'f' => sender_calls::fresh(rt, memory, said),
+        b'X' => sender_calls::transmit(rt, memory, said),
+        b'O' => sender_calls::timeout(rt, memory, said),
+        b'm' => contract_calls::fresh(rt, memory, said),
+        b'B' => contract_calls::submit(rt, memory, said),
+        b'P' => contract_calls::deposit(rt, memory, said),
+        b'W' => contract_calls::withdraw(rt, memory, said),
         _ => Ok(false),
     }
 }

@@ -1,12 +1,13 @@
 -- A report that is kept: it is short enough, and stands at the start of its buffer, whatever the buffer held.
 use mathlib.Core.Bool.{true}
 use mathlib.Core.List.{List, ◌++◌, append_assoc}
-use mathlib.Core.Path.{◌≡◌, ◌∙◌}
+use mathlib.Core.Path.{◌≡◌, sym, ◌∙◌}
 use Prim.Native.Nat.{ℕ, ◌+◌, ◌-◌, ◌≤◌}
-use native.Mathlib.Nat.{le_trans}
+use native.Mathlib.Nat.{le_trans, zero-add}
 use native.Mathlib.Omega.{arith}
 use lib.ListN.{length, drop, replicate, length-append, length-replicate}
 use Rattle.config.specs.Limits.{members, kept_size}
+use Rattle.wire.specs.Overlay.{over}
 use Rattle.wire.proofs.Overlay.{over_eq}
 use Rattle.frame.specs.Message.{Attested}
 use Rattle.frame.specs.Encode.{attested_bytes}
@@ -21,6 +22,10 @@ use Rattle.report.specs.Kept.{kept_bytes, keeping}
 
 pub length_kept : (body : List ℕ) → length body ≤ kept_size → length (kept_bytes body) ≡ kept_size
 length_kept body h = length-append body (replicate (kept_size - length body) 0) ∙ rw length-replicate (omega arith)
+
+-- bytes in the place of a list's first ones are laid over its start
+pub laid_front : (l bs : List ℕ) → length bs ≤ length l → bs ++ drop (length bs) l ≡ over l 0 bs
+laid_front l bs h = sym (over_eq l 0 bs (rw zero-add h) ∙ rw zero-add)
 
 -- a buffer of full size has the bytes of the longest report of n members
 pub kept_readable : (n : ℕ) (b : List ℕ) → n ≤ members → kept_size ≤ length b → Readable n b

@@ -14,6 +14,7 @@ ghost use Rattle.report.specs.Newer.{newer};
 ghost use Rattle.report.specs.Whole.{WholeList, WholeReport, part_of};
 
 use config::{Config, Refusal};
+use frame::Kind;
 
 // What is wrong with a report.
 #[derive(Clone, Copy, PartialEq, Eq)]
@@ -57,7 +58,7 @@ pub fn attested_fault(body: &[u8], f: u8, bits: u64) -> Standing
     requires { WholeReport body.now }
     ensures { result ≡ attested_fault f bits (attested_in body.now) }
 {
-    list_fault(body, frame::stride(6), f)?;
+    list_fault(body, frame::stride(Kind::Final), f)?;
     signers_fault(body, f, bits)
 }
 
@@ -87,14 +88,12 @@ fn not_falling(body: &[u8], stride: usize) -> bool
     ensures { result ≡ not_falling (values_of (observations_in stride body.now)) }
 {
     let m = frame::count_of(body);
-    let mut i: usize = 1;
-    while i < m {
+    for i in 1..m {
         let value = frame::value_at(body, stride, i);
         let before = frame::value_at(body, stride, i - 1);
-        if below(value, before) {
+        if value < before {
             return false;
         }
-        i += 1;
     }
     true
 }
@@ -160,7 +159,7 @@ pub fn median(body: &[u8], stride: usize) -> i64
 pub fn newer(epoch: u32, round: u8, than_epoch: u32, than_round: u8) -> bool
     ensures { result ≡ newer epoch round than_epoch than_round }
 {
-    (than_epoch < epoch) | ((epoch == than_epoch) & (than_round < round))
+    (than_epoch, than_round) < (epoch, round)
 }
 
 // Whether the body that a buffer of full size keeps is in range.
@@ -178,8 +177,8 @@ pub fn keep(buffer: &mut [u8], body: &[u8])
     ensures { buffer.new ≡ keeping buffer.old body.now }
 {
     let n = body.len();
-    wire::copy(buffer, 0, body, 0, n);
-    wire::zero(buffer, n, Config::KEPT - n);
+    buffer[..n].copy_from_slice(body);
+    buffer[n..Config::KEPT].fill(0);
 }
 
 // Clears a buffer.
@@ -187,7 +186,7 @@ pub fn clear(buffer: &mut [u8])
     requires { kept_size ≤ length buffer.old }
     ensures { buffer.new ≡ cleared buffer.old }
 {
-    wire::zero(buffer, 0, Config::KEPT);
+    buffer[..Config::KEPT].fill(0);
 }
 
 // The `len` bytes from `start` on, where they lie within the slice; else none.
@@ -195,12 +194,8 @@ pub fn clear(buffer: &mut [u8])
 pub fn part_of(s: &[u8], start: usize, len: usize) -> &[u8]
     ensures { result.now ≡ part_of s.now start len }
 {
-    if s.len() < start {
-        return &s[..0];
+    match start.checked_add(len) {
+        Some(end) if end <= s.len() => &s[start..end],
+        _ => &[],
     }
-    if s.len() - start < len {
-        return &s[..0];
-    }
-    let end = start + len;
-    &s[start..end]
 }

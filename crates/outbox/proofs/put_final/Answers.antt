@@ -17,14 +17,14 @@ returns c =
     let o = c.put_observations-q in
     let g = c.put_signers in
     let order = a.order.now in
-    let xs = observations order a.values.now in
-    let ss = signers_of a.signers.now a.signatures.now in
-    let many = length-map order (observed a.values.now) in
+    let xs = observations order a.tables.values.now in
+    let ss = signers_of a.signers.now a.tables.signatures.now in
+    let many = length-map order (observed a.tables.values.now) in
     let long = length_observed xs in (
       laid_three a.out.now h.new.out o.new.out g.new.out 0 (head_bytes a.epoch a.round) h.result (counted_bytes observation_bytes xs) o.result (counted_bytes signer_bytes ss)
           h.ensures.0
           (laid_counted observation_bytes xs h.new.out o.new.out h.result (length order) many o.ensures.0)
-          (laid_counted signer_bytes ss o.new.out g.new.out o.result (length a.signers.now) (length-map a.signers.now (signer a.signatures.now)) g.ensures.0)
+          (laid_counted signer_bytes ss o.new.out g.new.out o.result (length a.signers.now) (length-map a.signers.now (signer a.tables.signatures.now)) g.ensures.0)
           h.ensures.1 (omega arith),
       omega arith,
     )

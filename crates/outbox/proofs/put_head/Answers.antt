@@ -8,4 +8,4 @@ use Rattle.outbox.proofs.put_head.Goals as goal
 pub returns : goal.returns
 unfolding head_bytes
 returns c =
-    (rw c.put_u32.ensures (over_next c.args.out.now 0 (be_bytes 4 c.args.epoch) 4 c.args.round (length_be_bytes 4 c.args.epoch)), c.body_length.ensures)
+    (rw c.write.ensures (over_next c.args.out.now 0 (be_bytes 4 c.args.epoch) 4 c.args.round (length_be_bytes 4 c.args.epoch)), c.body_length.ensures)

@@ -8,12 +8,12 @@ use Rattle.outbox.proofs.Runs.{run_start, run_next}
 use Rattle.outbox.proofs.Frames.{observed_even}
 use Rattle.outbox.proofs.put_observations.Goals as goal
 
-pub loop-i-init : goal.loop-i-init
-loop-i-init c = run_start (length-map c.args.order.now (observed c.args.values.now))
+pub loop-j-init : goal.loop-j-init
+loop-j-init c = run_start (length-map c.args.order.now (observed c.args.tables.values.now))
 
-pub loop-i-preserved : goal.loop-i-preserved
+pub loop-j-preserved : goal.loop-j-preserved
 unfolding shape_of table
-loop-i-preserved c =
+loop-j-preserved c =
     let a = c.args in
-    run_next c.loop-i.invariant (observed_even _ (observations a.order.now a.values.now)) c.loop-i-test.true
-    (get_or-map (observed a.values.now) a.order.now c.loop-i.i 0) c.put_observation.ensures (omega arith)
+    run_next c.loop-j.invariant (observed_even _ (observations a.order.now a.tables.values.now)) (omega arith)
+    (get_or-map (observed a.tables.values.now) a.order.now c.loop-j.j-index 0) c.put_observation.ensures (omega arith)

@@ -15,9 +15,9 @@ returns c =
     let a = c.args in
     let h = c.put_head-p in
     let value = be_bytes 8 (of_z w64 a.value) in
-    let said : c.put_i64.new.s ≡ over h.new.out h.result value =
-    c.put_i64.ensures ∙ ap (λ (x : ℤ). over h.new.out h.result (be_bytes 8 (of_z w64 x))) (to_z-of_z w64 a.value c.ranges.value) in (
-      laid_three a.out.now h.new.out c.put_i64.new.s c.zero.new.s 0 (head_bytes a.epoch a.round) h.result value (h.result + 8) own_signature
+    let said : c.write.new.s ≡ over h.new.out h.result value =
+    c.write.ensures ∙ ap (λ (x : ℤ). over h.new.out h.result (be_bytes 8 (of_z w64 x))) (to_z-of_z w64 a.value c.ranges.value) in (
+      laid_three a.out.now h.new.out c.write.new.s c.zero.new.s 0 (head_bytes a.epoch a.round) h.result value (h.result + 8) own_signature
           h.ensures.0 said c.zero.ensures h.ensures.1 refl,
       c.body_length.ensures,
     )

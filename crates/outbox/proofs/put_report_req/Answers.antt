@@ -16,10 +16,10 @@ returns c =
     let h = c.put_head-p in
     let g = c.put_signed in
     let order = a.order.now in
-    let xs = signed_observations order a.values.now a.signatures.now in (
+    let xs = signed_observations order a.tables.values.now a.tables.signatures.now in (
       laid_two a.out.now h.new.out g.new.out 0 (head_bytes a.epoch a.round) h.result (counted_bytes signed_bytes xs)
           h.ensures.0
-          (laid_counted signed_bytes xs h.new.out g.new.out h.result (length order) (length-map order (signed a.values.now a.signatures.now)) g.ensures.0)
+          (laid_counted signed_bytes xs h.new.out g.new.out h.result (length order) (length-map order (signed a.tables.values.now a.tables.signatures.now)) g.ensures.0)
           h.ensures.1,
       omega arith,
     )

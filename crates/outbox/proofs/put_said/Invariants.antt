@@ -1,6 +1,5 @@
 -- `outbox::put_said` meets its contract: the loop has written a run of the entries. A turn copies the first bytes of an entry, which are those of its
 -- observation (`said_copied`).
-use Rattle.std.proofs.Common.{◌-◌}
 use Rattle.frame.specs.Message.{no_observation}
 use Rattle.frame.specs.Table.{shape_of}
 use Rattle.frame.specs.Encode.{observation_bytes}
@@ -11,6 +10,3 @@ use Rattle.outbox.proofs.put_said.Given as goal
 abbrev pub invariant-loop-i : goal.invariant-loop-i
 invariant-loop-i l =
     Run observation_bytes (shape_of 5).entry no_observation (observations_in (shape_of 4).entry l.body) (count_in l.body) list_place l.initial.out l.out l.p l.i
-
-abbrev pub decreases-loop-i : goal.decreases-loop-i
-decreases-loop-i l = l.m - l.i

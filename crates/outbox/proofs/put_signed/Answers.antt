@@ -10,19 +10,19 @@ use Rattle.outbox.proofs.Runs.{laid_two, run_start, run_next}
 use Rattle.outbox.proofs.Frames.{signed, signed_even}
 use Rattle.outbox.proofs.put_signed.Goals as goal
 
-pub loop-i-init : goal.loop-i-init
-loop-i-init c = run_start (length-map c.args.order.now (signed c.args.values.now c.args.signatures.now))
+pub loop-j-init : goal.loop-j-init
+loop-j-init c = run_start (length-map c.args.order.now (signed c.args.tables.values.now c.args.tables.signatures.now))
 
-pub loop-i-preserved : goal.loop-i-preserved
+pub loop-j-preserved : goal.loop-j-preserved
 unfolding signed_bytes observation_bytes be_bytes shape_of table
-loop-i-preserved c =
+loop-j-preserved c =
     let a = c.args in
-    let l = c.loop-i in
+    let l = c.loop-j in
     let order = a.order.now in
-    let j = get_or order l.i 0 in
+    let j = get_or order l.j-index 0 in
     let place : l.p + c.stride.result ≡ l.p + 9 = omega arith in
-    run_next l.invariant (signed_even a.n order a.signatures.now c.requires.1 c.requires.3 a.values.now) c.loop-i-test.true
-    (get_or-map (signed a.values.now a.signatures.now) order l.i 0)
-    (laid_two l.out c.put_observation.new.out c.put_signature.new.out l.p (observation_bytes (observed a.values.now j)) (l.p + c.stride.result)
-    (signature_of a.signatures.now j) c.put_observation.ensures c.put_signature.ensures place)
+    run_next l.invariant (signed_even a.tables.n order a.tables.signatures.now c.requires.1 a.tables.has_signatures a.tables.values.now) (omega arith)
+    (get_or-map (signed a.tables.values.now a.tables.signatures.now) order l.j-index 0)
+    (laid_two l.out c.put_observation.new.out c.put_signature.new.out l.p (observation_bytes (observed a.tables.values.now j)) (l.p + c.stride.result)
+    (signature_of a.tables.signatures.now j) c.put_observation.ensures c.put_signature.ensures place)
     (omega arith)

@@ -17,10 +17,10 @@ returns c =
     let v2 = be_bytes 2 (version_of a.config.n) in
     let v4 = be_bytes 4 a.n in
     let v8 = be_bytes 8 a.config.number in
-    let first : c.put_u16.new.s ≡ over both (a.n + 2) v2 = c.put_u16.ensures ∙ ap (λ (x : ℕ). over both (a.n + 2) (be_bytes 2 x)) c.version.ensures in
-    let numbers : c.put_u64.new.s ≡ over both (a.n + 2) (v2 ++ (v4 ++ v8)) =
-    laid_three both c.put_u16.new.s c.put_u32.new.s c.put_u64.new.s (a.n + 2) v2 (a.n + 4) v4 (a.n + 8) v8 first c.put_u32.ensures c.put_u64.ensures (omega arith) (omega arith) in
+    let first : c.write.new.s ≡ over both (a.n + 2) v2 = c.write.ensures ∙ ap (λ (x : ℕ). over both (a.n + 2) (be_bytes 2 x)) c.version.ensures in
+    let numbers : c.write-3.new.s ≡ over both (a.n + 2) (v2 ++ (v4 ++ v8)) =
+    laid_three both c.write.new.s c.write-2.new.s c.write-3.new.s (a.n + 2) v2 (a.n + 4) v4 (a.n + 8) v8 first c.write-2.ensures c.write-3.ensures (omega arith) (omega arith) in
     let place : a.n + 2 ≡ a.n + 1 + 1 = omega arith in
-    let behind : c.put_u64.new.s ≡ over stored (a.n + 1) (a.config.own ∷ (v2 ++ (v4 ++ v8))) =
-    laid_behind stored c.put_u64.new.s (a.n + 1) a.config.own (v2 ++ (v4 ++ v8)) (numbers ∙ ap (λ (q : ℕ). over both q (v2 ++ (v4 ++ v8))) place) in
-    (laid_behind o c.put_u64.new.s a.n a.kind (a.config.own ∷ (v2 ++ (v4 ++ v8))) behind, refl)
+    let behind : c.write-3.new.s ≡ over stored (a.n + 1) (a.config.own ∷ (v2 ++ (v4 ++ v8))) =
+    laid_behind stored c.write-3.new.s (a.n + 1) a.config.own (v2 ++ (v4 ++ v8)) (numbers ∙ ap (λ (q : ℕ). over both q (v2 ++ (v4 ++ v8))) place) in
+    (laid_behind o c.write-3.new.s a.n a.kind (a.config.own ∷ (v2 ++ (v4 ++ v8))) behind, refl)

@@ -8,6 +8,3 @@ abbrev pub invariant-loop-i : goal.invariant-loop-i
 invariant-loop-i l =
     let values = values_of (observations_in l.stride l.body) in
     (0 < l.i) × (not_falling (drop (l.i - 1) values) ≡ not_falling values)
-
-abbrev pub decreases-loop-i : goal.decreases-loop-i
-decreases-loop-i l = l.m - l.i

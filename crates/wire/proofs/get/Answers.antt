@@ -1,14 +1,12 @@
--- A turn of `get` is `get_step` and `get_below`, of the bytes from `at` on.
-use Rattle.std.proofs.Common.{◌≡◌, ◌+◌, ◌<◌, length, get_or, drop, sym, ◌∙◌, arith, length-drop, get_or-drop}
-use Rattle.wire.proofs.Numbers.{get_step, get_below}
+-- A turn of `get` is `get_step` and `get_below`, of the digits.
+use Rattle.std.proofs.Common.{◌<◌, ◌+◌, ◌-◌, drop, arith}
+use Rattle.wire.proofs.Numbers.{bytes_take, bytes_drop, get_step, get_below}
 use Rattle.wire.proofs.get.Goals as goal
 
-pub loop-i-preserved : goal.loop-i-preserved
-loop-i-preserved c =
-    let l = c.loop-i in
-    let s = c.args.s.now in
-    let b = c.wide-b.result in
-    let h : l.i < length (drop c.args.at s) = simp length-drop (omega arith) in
-    let e : b ≡ get_or (drop c.args.at s) l.i 0 = c.wide-b.ensures ∙ sym (get_or-drop c.args.at s l.i 0) in
-    let byte : b < 256 = omega (arith, c.wide-b.ensures, c.type_inv.s (c.args.at + l.i)) in
-    (omega arith, get_step _ l.i l.x b h l.invariant.1 e, get_below l.i l.x b l.invariant.2 byte)
+pub loop-b-preserved : goal.loop-b-preserved
+loop-b-preserved c =
+    let l = c.loop-b in
+    let a = c.args in
+    let digit = bytes_take (a.at + a.width - a.at) (drop a.at a.s.now) (bytes_drop a.at a.s.now (λ k. omega (arith, c.type_inv.s k))) l.b-index in
+    let byte : c.from.result < 256 = omega (arith, c.from.ensures, digit) in
+    (get_step _ l.b-index l.x c.from.result c.loop-b-test.true l.invariant.0 c.from.ensures, get_below l.b-index l.x c.from.result l.invariant.1 byte)

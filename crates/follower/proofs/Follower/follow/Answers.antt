@@ -8,6 +8,8 @@ use Rattle.frame.specs.Message.{Signed}
 use Rattle.frame.specs.Decode.{signed_in, attested_in, message_of}
 use Rattle.frame.specs.Encode.{attested_bytes}
 use Rattle.frame.specs.Check.{body_answer}
+use Rattle.frame.specs.Kinds.{number_of}
+use Rattle.frame.proofs.Numbers.{number_high}
 use Rattle.frame.proofs.RoundTrip.{final_forth}
 use Rattle.frame.proofs.Checked.{said_in}
 use Rattle.report.specs.Stands.{values_of}
@@ -22,32 +24,32 @@ bytes n kind b low high e fit = final_forth b (λ k. (fit k).fits) (sym (checked
 pub keep-requires : goal.keep-requires
 keep-requires c =
     let r = c.requires in
-    (fits_kept c.args.config.n c.args.kind c.args.body.now (omega arith) r.1 r.2 r.5, search rules)
+    (fits_kept c.args.config.n (number_of c.args.kind) c.args.body.now (omega (arith, ap number_of c.in-Final.is)) (number_high c.args.kind) r.0 r.3, search rules)
 
 pub keep_unless-requires : goal.keep_unless-requires
 keep_unless-requires c =
     let r = c.requires in
-    (fits_kept c.args.config.n c.args.kind c.args.body.now (omega arith) r.1 r.2 r.5, search rules)
+    (fits_kept c.args.config.n (number_of c.args.kind) c.args.body.now (omega (arith, ap number_of c.in-FinalEcho.is)) (number_high c.args.kind) r.0 r.3, search rules)
 
 -- the median of what the list says; its signatures are passed over
-pub returns-in-4 : goal.returns-in-4
+pub returns-in-ReportReq : goal.returns-in-ReportReq
 unfolding message_of
-returns-in-4 c =
+returns-in-ReportReq c =
     let a = c.args in
-    let said : c.median.result ≡ median_of (values_of (map (λ (x : Signed). x.said) (signed_in a.body.now))) = rw (said_in a.body.now, ← c.stride.ensures) c.median.ensures in
-    let value = to_z-of_z w64 c.median.result (search rules) in
-    (rw c.in-4.is (c.asked.ensures ∙ ap (asked a.config a.self a.time a.commit) (value ∙ said)), rw c.in-4.is)
+    let said : c.median-median.result ≡ median_of (values_of (map (λ (x : Signed). x.said) (signed_in a.body.now))) = rw (said_in a.body.now, ← c.stride.ensures) c.median-median.ensures in
+    let value = to_z-of_z w64 c.median-median.result (search rules) in
+    (rw c.in-ReportReq.is (c.asked.ensures ∙ ap (asked a.config a.self a.time a.commit) (value ∙ said)), rw c.in-ReportReq.is)
 
-pub returns-in-6 : goal.returns-in-6
+pub returns-in-Final : goal.returns-in-Final
 unfolding message_of
-returns-in-6 c =
+returns-in-Final c =
     let a = c.args in
-    let same = bytes a.config.n a.kind a.body.now (omega arith) c.requires.1 c.requires.2 c.type_inv.body in
-    (rw c.in-6.is c.received.ensures, rw (c.in-6.is, same) c.keep.ensures)
+    let same = bytes a.config.n (number_of a.kind) a.body.now (omega (arith, ap number_of c.in-Final.is)) (number_high a.kind) c.requires.0 c.type_inv.body in
+    (rw c.in-Final.is c.received.ensures, rw (c.in-Final.is, same) c.keep.ensures)
 
-pub returns-in-7 : goal.returns-in-7
+pub returns-in-FinalEcho : goal.returns-in-FinalEcho
 unfolding message_of
-returns-in-7 c =
+returns-in-FinalEcho c =
     let a = c.args in
-    let same = bytes a.config.n a.kind a.body.now (omega arith) c.requires.1 c.requires.2 c.type_inv.body in
-    (rw c.in-7.is c.echoed.ensures, rw (c.in-7.is, same) c.keep_unless.ensures)
+    let same = bytes a.config.n (number_of a.kind) a.body.now (omega (arith, ap number_of c.in-FinalEcho.is)) (number_high a.kind) c.requires.0 c.type_inv.body in
+    (rw c.in-FinalEcho.is c.echoed.ensures, rw (c.in-FinalEcho.is, same) c.keep_unless.ensures)

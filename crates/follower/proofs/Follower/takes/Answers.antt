@@ -2,6 +2,6 @@
 use Rattle.frame.specs.Decode.{message_of}
 use Rattle.follower.proofs.Follower.takes.Goals as goal
 
-pub returns-in-7 : goal.returns-in-7
+pub returns-in-FinalEcho : goal.returns-in-FinalEcho
 unfolding message_of
-returns-in-7 c = rw c.in-7.is (c.takes_echo.ensures c.args.leader)
+returns-in-FinalEcho c = rw c.in-FinalEcho.is (c.takes_echo.ensures c.args.leader)

@@ -1,5 +1,6 @@
 -- `write_reply` meets its contract: a reply tells which kind of body it answers, and a body of that kind says what is written.
 use Rattle.std.proofs.Common.{◌≡◌, ℕ, ℤ, List, [], ◌∷◌, ◌⊎◌, inl, inr, to_z-of_z}
+use Rattle.frame.specs.Kinds.{number_of}
 use Rattle.frame.specs.Message.{final_echo}
 use Rattle.frame.specs.Decode.{attested_in, message_of}
 use Rattle.frame.proofs.Checked.{said_in}
@@ -32,4 +33,4 @@ echoed v kind b (inr k) = rw k
 pub returns-in-Echo : goal.returns-in-Echo
 returns-in-Echo c =
     let a = c.args in
-    rw (c.in-Echo.is, echoed a.observation a.kind a.body.now (rw c.in-Echo.is at c.requires.1)) (wrote_one c.write_final_echo.ensures)
+    rw (c.in-Echo.is, echoed a.observation (number_of a.kind) a.body.now (rw c.in-Echo.is at c.requires.1)) (wrote_one c.write_final_echo.ensures)
