@@ -11,7 +11,7 @@ use crate::{Kind, LIST, TRAILER, reading};
 use config::{Answer, Config, Refusal};
 
 // Checks 4 to 9: what is wrong with a frame that came over the link of member `link`, in a feed of n members with this
-// configuration number. Done where nothing is.
+// configuration number. `Ok` where nothing is.
 #[tactic(auto, using(crate::proofs::Checks::start_at, crate::proofs::Checks::short_frame, crate::proofs::Checks::another_feed, crate::proofs::Checks::no_kind, crate::proofs::Checks::another_sender, crate::proofs::Checks::bytes_before, crate::proofs::Checks::whole_frame))]
 pub fn check(frame: &[u8], n: u8, number: u64, link: u8) -> Answer
     ensures { result ≡ frame_answer frame.now n number link }

@@ -19,7 +19,7 @@ pub enum Kind {
 }
 
 // A number is no kind.
-#[derive(Clone, Copy, PartialEq, Eq)]
+#[derive(Clone, Copy)]
 pub struct NoKind;
 
 impl Kind {
