@@ -9,23 +9,14 @@ use std::io::{Input, Print};
 const CASE: usize = 20;
 
 fn main(rt: HostRuntime) -> io::Result<()> {
-    let mut turns = u64::MAX;
-    while turns > 0 {
-        if !take_turn(&rt)? {
-            return Ok(());
-        }
-        turns -= 1;
-    }
-    Ok(())
+    show::each_turn(&rt, take_turn)
 }
 
 // One case; false where the input has ended.
 fn take_turn<R: Input + Print>(rt: &R) -> io::Result<bool> {
-    let mut case = [0u8; CASE];
-    let n = show::read_full(rt, &mut case)?;
-    if n < CASE {
+    let Some(case) = show::read_array(rt)? else {
         return Ok(false);
-    }
+    };
     if deviates(&case) {
         rt.write_all(b"yes\n")?;
     } else {
@@ -35,10 +26,9 @@ fn take_turn<R: Input + Print>(rt: &R) -> io::Result<bool> {
 }
 
 fn deviates(case: &[u8; CASE]) -> bool {
-    let s: &[u8] = case;
-    let alpha = wire::read::<u32>(s, 0);
-    let old = wire::read::<i64>(s, 4);
-    let new = wire::read::<i64>(s, 12);
+    let alpha = wire::read::<u32>(case, 0);
+    let old = wire::read::<i64>(case, 4);
+    let new = wire::read::<i64>(case, 12);
     let schedule = [4u8, 0, 0, 0, 0, 0, 0, 0];
     let config = Config::new(0, 4, 1, 1, 1, alpha, 0, 0, 1, schedule);
     price::deviates(config, old, new)

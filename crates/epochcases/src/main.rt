@@ -6,24 +6,15 @@ use std::io;
 use std::io::{Input, Print};
 
 fn main(rt: HostRuntime) -> io::Result<()> {
-    let mut turns = u64::MAX;
-    while turns > 0 {
-        if !take_turn(&rt)? {
-            return Ok(());
-        }
-        turns -= 1;
-    }
-    Ok(())
+    show::each_turn(&rt, take_turn)
 }
 
 // One case; false where there is none.
 fn take_turn<R: Input + Print>(rt: &R) -> io::Result<bool> {
-    let mut long = [0u8; 2];
-    if show::read_full(rt, &mut long)? < 2 {
+    let Some(long) = show::read_array(rt)? else {
         return Ok(false);
-    }
-    let s: &[u8] = &long;
-    take_input(rt, wire::read::<u16>(s, 0))?;
+    };
+    take_input(rt, u16::from_be_bytes(long))?;
     rt.write_all(b"--\n")?;
     Ok(true)
 }
@@ -31,12 +22,10 @@ fn take_turn<R: Input + Print>(rt: &R) -> io::Result<bool> {
 // The next n bytes are an input of their own.
 fn take_input<R: Input + Print>(rt: &R, n: u16) -> io::Result<()> {
     let mut run = epochrun::begin([0u8; Config::FRAME]);
-    let mut left = n;
-    while left > 0 {
+    for _ in 0..n {
         let mut byte = [0u8; 1];
         show::read_full(rt, &mut byte)?;
         run = epochrun::feed(rt, run, byte[0])?;
-        left -= 1;
     }
     epochrun::end(rt, run)
 }

@@ -6,14 +6,11 @@ use std::io;
 
 fn main(rt: HostRuntime) -> io::Result<()> {
     let mut run = epochrun::begin([0u8; Config::FRAME]);
-    let mut turns = u64::MAX;
-    while turns > 0 {
-        let mut byte = [0u8; 1];
-        if show::read_full(&rt, &mut byte)? < 1 {
+    for _ in 0..u64::MAX {
+        let Some([byte]) = show::read_array::<_, 1>(&rt)? else {
             return epochrun::end(&rt, run);
-        }
-        run = epochrun::feed(&rt, run, byte[0])?;
-        turns -= 1;
+        };
+        run = epochrun::feed(&rt, run, byte)?;
     }
     Ok(())
 }

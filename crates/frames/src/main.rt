@@ -5,8 +5,6 @@
 mod reading;
 mod writing;
 
-ghost use Rattle.std.specs.Prelude.{◌<◌, ◌^◌};
-
 use std::io;
 use std::io::{Input, Print};
 
@@ -14,56 +12,30 @@ use std::io::{Input, Print};
 const CASE: usize = 65536;
 
 fn main(rt: HostRuntime) -> io::Result<()> {
-    let mut turns = u64::MAX;
-    while turns > 0 {
-        if !take_turn(&rt)? {
-            return Ok(());
-        }
-        turns -= 1;
-    }
-    Ok(())
+    show::each_turn(&rt, take_turn)
 }
 
 // One case; false where the input has ended.
 fn take_turn<R: Input + Print>(rt: &R) -> io::Result<bool> {
-    let mut long = [0u8; 2];
-    if show::read_full(rt, &mut long)? < 2 {
+    let Some(long) = show::read_array(rt)? else {
+        return Ok(false);
+    };
+    let n = usize::from(u16::from_be_bytes(long));
+    let mut buffer = [0u8; CASE];
+    let case = &mut buffer[..n];
+    if show::read_full(rt, case)? < n {
         return Ok(false);
     }
-    let n = number(&long);
-    let mut case = [0u8; CASE];
-    if show::read_full(rt, &mut case[..n])? < n {
-        return Ok(false);
-    }
-    run(rt, &case, n)?;
+    answer(rt, case)?;
     rt.write_all(b"\n")?;
     Ok(true)
 }
 
-// The length that two bytes say.
-fn number(long: &[u8; 2]) -> usize
-    ensures { result < 2 ^ 16 }
-{
-    let s: &[u8] = long;
-    wire::read::<u16>(s, 0) as usize
-}
-
-// What the case of n bytes at the start of a buffer asks for.
-fn run<R: Print>(rt: &R, buffer: &[u8; CASE], n: usize) -> io::Result<()>
-    requires { n < 2 ^ 16 }
-{
-    let all: &[u8] = buffer;
-    if n == 0 {
-        return Ok(());
-    }
-    answer(rt, all[0], &all[..n])
-}
-
-// By the operation; nothing where it is none.
-fn answer<R: Print>(rt: &R, operation: u8, case: &[u8]) -> io::Result<()> {
-    match operation {
-        b'R' => reading::read(rt, case),
-        b'W' => writing::write(rt, case),
+// By the operation, its first byte; nothing where it is none.
+fn answer<R: Print>(rt: &R, case: &[u8]) -> io::Result<()> {
+    match case.first() {
+        Some(b'R') => reading::read(rt, case),
+        Some(b'W') => writing::write(rt, case),
         _ => Ok(()),
     }
 }

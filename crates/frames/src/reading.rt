@@ -64,11 +64,9 @@ fn say_list<R: Print>(rt: &R, body: &[u8], stride: usize) -> io::Result<()>
     say_head(rt, body)?;
     let m = frame::count_of(body);
     show::number(rt, m as u64)?;
-    let mut i: usize = 0;
-    while i < m {
+    for i in 0..m {
         show::number(rt, frame::member_at(body, stride, i) as u64)?;
         show::number(rt, frame::value_at(body, stride, i).cast_unsigned())?;
-        i += 1;
     }
     Ok(())
 }
@@ -81,10 +79,8 @@ fn say_final<R: Print>(rt: &R, body: &[u8]) -> io::Result<()>
     say_list(rt, body, frame::stride(6))?;
     let s = frame::signer_count(body);
     show::number(rt, s as u64)?;
-    let mut i: usize = 0;
-    while i < s {
+    for i in 0..s {
         show::number(rt, frame::signer_at(body, i) as u64)?;
-        i += 1;
     }
     Ok(())
 }

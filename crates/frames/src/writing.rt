@@ -28,7 +28,7 @@ pub fn write<R: Print>(rt: &R, case: &[u8]) -> io::Result<()> {
     if case.len() < SAID {
         return Ok(());
     }
-    let at = wire::read::<u16>(case, 12) as usize;
+    let at = usize::from(wire::read::<u16>(case, 12));
     if OUTBOX < at + frame::TRAILER {
         return Ok(());
     }
@@ -162,7 +162,7 @@ fn put_requested(
     requires { (at + trailer_length ≤ length outbox.old) × (length order.now ≤ 255) }
 {
     let n = config.n;
-    let many = n as usize;
+    let many = usize::from(n);
     if tables.len() != (VALUE + Config::SIGNATURE) * many {
         return 0;
     }
@@ -215,7 +215,7 @@ fn put_final(outbox: &mut [u8], at: usize, config: Config, said: &[u8]) -> usize
         return 0;
     }
     let first = end + 1;
-    let last = first + counted(said[end]);
+    let last = first + usize::from(said[end]);
     if said.len() < last {
         return 0;
     }
@@ -245,7 +245,7 @@ fn put_attested(
     requires { (at + trailer_length ≤ length outbox.old) × (length order.now ≤ 255) × (length signers.now ≤ 255) }
 {
     let n = config.n;
-    let many = n as usize;
+    let many = usize::from(n);
     if tables.len() != (VALUE + Config::SIGNATURE) * many {
         return 0;
     }
@@ -298,13 +298,6 @@ fn space(long: usize, at: usize) -> usize
     long - at - frame::TRAILER
 }
 
-// How many a byte counts.
-fn counted(x: u8) -> usize
-    ensures { result ≤ 255 }
-{
-    x as usize
-}
-
 // Whether each of these is one of n members.
 #[tactic(auto, using(crate::proofs::Cases::entries_one))]
 fn good_members(order: &[u8], n: u8) -> bool
@@ -319,10 +312,9 @@ fn values_in(tables: &[u8], n: u8) -> [i64; VALUES]
     ensures { n ≤ length result }
 {
     let mut values = [0i64; VALUES];
-    let mut i: usize = 0;
-    while i < n as usize {
-        values[i] = wire::read::<i64>(tables, VALUE * i);
-        i += 1;
+    let bodies = tables.chunks_exact(VALUE);
+    for (value, bytes) in values[..usize::from(n)].iter_mut().zip(bodies) {
+        *value = wire::read::<i64>(bytes, 0);
     }
     values
 }

@@ -1,5 +1,0 @@
--- `epochcases::main` is safe and ends: its turns count down.
-use Rattle.epochcases.proofs.main.Given as goal
-
-abbrev pub decreases-loop-turns : goal.decreases-loop-turns
-decreases-loop-turns l = l.turns
