@@ -3,12 +3,13 @@ use mathlib.Core.Bool.{Bool, true, false, cond, ◌&&◌}
 use mathlib.Core.List.{List}
 use mathlib.Core.Path.{◌≡◌, refl, sym, ap, ◌∙◌}
 use Prim.Native.Nat.{ℕ, suc, ◌+◌, ◌≤◌, ◌<◌}
-use native.Mathlib.Numerals.{add-one}
 use native.Mathlib.Omega.{arith}
-use borrow.Author.Tests.{eqb-true, ne_eqb}
+use borrow.Author.Tests.{eqb-true, eq-eqb, ne_eqb}
 use lib.Dec.{eqb, lit<}
 use lib.ListN.{length, get_or, take, drop, length-take, length-drop, drop_of_length-le}
-use lib.Seq.{drop-cons, take_all, length-take-le}
+use lib.Seq.{take_all, length-take-le}
+use Rattle.std.proofs.lemmas.List.Recursion.{is_position_or_len}
+use Rattle.std.proofs.lemmas.List.Sums.{position_or_len_is}
 use Rattle.quorum.proofs.Cases.{cases, test_false, split}
 use Rattle.config.specs.Limits.{last_epoch}
 use Rattle.config.proofs.Facts.{and-true}
@@ -18,22 +19,12 @@ use Rattle.epochline.proofs.Decimals.{number_facts}
 
 -- ---- the first space
 
--- for a loop: the first space is at i, or behind it
-pub space_here : (s : List ℕ) (i : ℕ) → i < length s → get_or s i 0 ≡ 32 → space_in s ≡ i + space_in (drop i s) → i ≡ space_in s
+-- no space stands before it, and it is one unless it is the length
+pub space_at : (s : List ℕ) (i : ℕ) → i ≤ length s → ((k : ℕ) → k < i → get_or s k 0 ≡ 32 → ⊥) → (i < length s → get_or s i 0 ≡ 32) → i ≡ space_in s
 unfolding space_in
-space_here s i h e p = sym (p ∙ rw (drop-cons s i 0 h, e) (omega arith))
-
-pub space_next : (s : List ℕ) (i : ℕ) → i < length s → (get_or s i 0 ≡ 32 → ⊥) → space_in s ≡ i + space_in (drop i s) → space_in s ≡ i + 1 + space_in (drop (i + 1) s)
-unfolding space_in
-space_next s i h e p = p ∙ rw (drop-cons s i 0 h, ne_eqb (get_or s i 0) 32 e, add-one i) (omega arith)
-
-pub space_none : (s : List ℕ) (i : ℕ) → length s ≤ i → space_in s ≡ i + space_in (drop i s) → i ≡ space_in s
-unfolding space_in
-space_none s i h p = sym (p ∙ rw (drop_of_length-le s {i = i} h) (omega arith))
-
--- where there is no space, nothing stands behind it
-pub behind_none : (s : List ℕ) (i : ℕ) → length s ≤ i → i ≡ space_in s → drop i s ≡ behind s
-behind_none s i h e = drop_of_length-le s {i = i} h ∙ sym (drop_of_length-le s {i = suc (space_in s)} (omega arith))
+space_at s i h none found =
+    sym (is_position_or_len space_in (λ b. eqb b 32) refl (λ b l. ap (cond (eqb b 32) 0) (omega arith)) s
+    ∙ position_or_len_is (λ b. eqb b 32) s i 0 h (λ k g. ne_eqb (get_or s k 0) 32 (none k g)) (λ g. eq-eqb (get_or s i 0) 32 (found g)))
 
 -- ---- a line that is too long says nothing
 

@@ -63,45 +63,29 @@ fn heard_in(line: &[u8]) -> Command
 fn only(b: u8, s: &[u8]) -> bool
     ensures { result ≡ only b s.now }
 {
-    if s.len() != 1 {
-        return false;
-    }
-    s[0] == b
+    s.len() == 1 && s[0] == b
 }
 
 // What stands before the first space.
 fn word(s: &[u8]) -> &[u8]
     ensures { result.now ≡ word s.now }
 {
-    let end = space_in(s);
-    &s[..end]
+    &s[..space_in(s)]
 }
 
 // What stands behind the first space.
 fn behind(s: &[u8]) -> &[u8]
     ensures { result.now ≡ behind s.now }
 {
-    let end = space_in(s);
-    if end < s.len() {
-        let start = end + 1;
-        return &s[start..];
-    }
-    &s[end..]
+    s.get(space_in(s) + 1..).unwrap_or(&[])
 }
 
 // The place of the first space; the length where there is none.
-#[tactic(auto, using(crate::proofs::Words::space_here, crate::proofs::Words::space_next, crate::proofs::Words::space_none))]
+#[tactic(auto, using(crate::proofs::Words::space_at))]
 fn space_in(s: &[u8]) -> usize
     ensures { (result ≡ space_in s.now) × (result ≤ length s.now) }
 {
-    let mut i: usize = 0;
-    while i < s.len() {
-        if s[i] == SPACE {
-            return i;
-        }
-        i += 1;
-    }
-    i
+    s.iter().position(|b| *b == SPACE).unwrap_or(s.len())
 }
 
 // Whether these digits say a number that a member can have.
@@ -127,17 +111,10 @@ fn is_number(places: usize, limit: u64, s: &[u8]) -> bool
     ((len == 1) | (s[0] != NOUGHT)) & (value(s) <= limit)
 }
 
-#[tactic(auto, using(crate::proofs::Decimals::digits_next), unfolding(crate::specs::Decimal::all_digits))]
 fn all_digits(s: &[u8]) -> bool
     ensures { result ≡ all_digits s.now }
 {
-    let mut good = true;
-    let mut i: usize = 0;
-    while i < s.len() {
-        good = good & (NOUGHT <= s[i]) & (s[i] <= NOUGHT + 9);
-        i += 1;
-    }
-    good
+    s.iter().all(|b| matches!(*b, b'0'..=b'9'))
 }
 
 // The number that digits say.
@@ -147,10 +124,8 @@ fn value(s: &[u8]) -> u64
     ensures { (result ≡ value_of s.now) × (result < 10 ^ length s.now) }
 {
     let mut x: u64 = 0;
-    let mut i: usize = 0;
-    while i < s.len() {
-        x = x * 10 + (s[i] - NOUGHT) as u64;
-        i += 1;
+    for b in s {
+        x = x * 10 + u64::from(*b - NOUGHT);
     }
     x
 }
