@@ -6,14 +6,14 @@ use Prim.Native.Nat.{ℕ, suc, ◌+◌, ◌≤◌, ◌<◌}
 use native.Mathlib.Omega.{arith}
 use borrow.Author.Tests.{eqb-true, eq-eqb, ne_eqb}
 use lib.Dec.{eqb, lit<}
-use lib.ListN.{length, get_or, take, drop, length-take, length-drop, drop_of_length-le}
+use lib.ListN.{length, get_or, take, length-take, length-drop}
 use lib.Seq.{take_all, length-take-le}
+use Rattle.std.specs.Prelude.{None}
 use Rattle.std.proofs.lemmas.List.Recursion.{is_position_or_len}
 use Rattle.std.proofs.lemmas.List.Sums.{position_or_len_is}
 use Rattle.quorum.proofs.Cases.{cases, test_false, split}
 use Rattle.config.specs.Limits.{last_epoch}
 use Rattle.config.proofs.Facts.{and-true}
-use Rattle.epochline.specs.declared.Command.TheVariants.{Other}
 use Rattle.epochline.specs.Lines.{space_in, word, behind, only, is_member, is_epoch, heard_in, command_of, feed_of, config_in}
 use Rattle.epochline.proofs.Decimals.{number_facts}
 
@@ -32,7 +32,7 @@ space_at s i h none found =
 length_words : (l : List ℕ) → length l ≤ length (word l) + 1 + length (behind l)
 length_words l = rw (length-take (space_in l) l, length-drop (suc (space_in l)) l) (omega arith)
 
-heard_long : (l : List ℕ) → 14 < length l → heard_in l ≡ Other
+heard_long : (l : List ℕ) → 14 < length l → heard_in l ≡ None
 unfolding heard_in
 heard_long l h = rw (test_false (is_member (word l) && is_epoch (behind l)) none)
   where
@@ -46,11 +46,11 @@ heard_long l h = rw (test_false (is_member (word l) && is_epoch (behind l)) none
 only_long : (b : ℕ) (l : List ℕ) → 1 < length l → only b l ≡ false
 only_long b l h = rw (ne_eqb (length l) 1 (omega arith))
 
-command_long : (l : List ℕ) → 16 < length l → command_of l ≡ Other
+command_long : (l : List ℕ) → 16 < length l → command_of l ≡ None
 unfolding command_of
 command_long l h = rw (only_long 83 l (omega arith), only_long 80 l (omega arith)) (go (only 78 (word l)) refl)
   where
-    go : (b : Bool) → only 78 (word l) ≡ b → cond b (heard_in (behind l)) Other ≡ Other
+    go : (b : Bool) → only 78 (word l) ≡ b → cond b (heard_in (behind l)) None ≡ None
     go true e =
         let one = eqb-true (length (word l)) 1 (and-true (eqb (length (word l)) 1) (eqb (get_or (word l) 0 0) 78) e).0 in
         heard_long (behind l) (omega (arith, length_words l))
@@ -77,7 +77,7 @@ front f a long l =
     (λ h. long (take 17 l) (rw (length-take-le 17 l (omega arith)) (lit< tt)) ∙ sym (long l (omega arith)))
 
 pub command_front : (l : List ℕ) → command_of (take 17 l) ≡ command_of l
-command_front = front command_of Other command_long
+command_front = front command_of None command_long
 
 pub config_front : (l : List ℕ) → config_in (take 17 l) ≡ config_in l
 config_front = front config_in (feed_of 0 0 0) (λ l h. config_long l (omega arith))

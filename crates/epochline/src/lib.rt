@@ -25,8 +25,6 @@ pub enum Command {
     // a member, and the epoch of its NEWEPOCH
     Heard(u8, u32),
     Progress,
-    // a line of another shape
-    Other,
 }
 
 // A run of the program.
@@ -180,13 +178,12 @@ impl Program {
     ) -> Fed
         ensures { Leaves result outbox.new kept.new signatures.new out.old out.new (later_turn (machine self outbox.old kept.old signatures.old)) }
     {
-        let command = reading::command_of(self.line_so_far());
-        if command.ends() {
+        let Some(command) = reading::command_of(self.line_so_far()) else {
             return Fed {
                 program: self.on_line(self.node, Program::ENDED),
                 written: 0,
             };
-        }
+        };
         let outcome = commands::calling(self.node, command, outbox, kept, signatures);
         Fed {
             program: self.on_line(outcome.node, Program::GOING),

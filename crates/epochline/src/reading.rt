@@ -29,34 +29,34 @@ pub(crate) fn config_in(line: &[u8]) -> Config
     config_of(0, 0, 0)
 }
 
-// What a later line says.
+// What a later line says; nothing where it has another shape.
 #[tactic(auto, unfolding(crate::specs::Lines::command_of))]
-pub(crate) fn command_of(line: &[u8]) -> Command
+pub(crate) fn command_of(line: &[u8]) -> Option<Command>
     ensures { result ≡ command_of line.now }
 {
     if only(b'S', line) {
-        return Command::Start;
+        return Some(Command::Start);
     }
     if only(b'P', line) {
-        return Command::Progress;
+        return Some(Command::Progress);
     }
     if only(b'N', word(line)) {
         return heard_in(behind(line));
     }
-    Command::Other
+    None
 }
 
-// "member epoch"
+// "member epoch"; nothing where it has another shape
 #[tactic(auto, using(crate::proofs::Decimals::number_facts), unfolding(crate::specs::Lines::heard_in))]
-fn heard_in(line: &[u8]) -> Command
+fn heard_in(line: &[u8]) -> Option<Command>
     ensures { result ≡ heard_in line.now }
 {
     let member = word(line);
     let epoch = behind(line);
     if is_member(member) & is_number(10, Config::LAST_EPOCH as u64, epoch) {
-        return Command::Heard(value(member) as u8, value(epoch) as u32);
+        return Some(Command::Heard(value(member) as u8, value(epoch) as u32));
     }
-    Command::Other
+    None
 }
 
 // Whether this character is all there is.
