@@ -6,14 +6,17 @@ use Prim.Native.Nat.{ℕ, ◌≤◌, zero-le}
 use native.Mathlib.Omega.{arith}
 use lib.Dec.{eqb}
 use lib.ListN.{length, length-append, length-replicate}
+use Rattle.std.specs.Prelude.{Option, None, Some}
+use Rattle.std.specs.Option.{unwrap_or, option_map}
 use Rattle.config.specs.Limits.{last_epoch, frame_size, kept_size, signatures_size}
 use Rattle.config.specs.Bounds.{none_empty, sum, good_feed, good_config}
 use Rattle.config.specs.Codes.{number_of, is_done}
 use Rattle.quorum.proofs.Cases.{either}
 use Rattle.node.specs.Calls.{fresh_of, restore_of, restore_answer}
+use Rattle.epochline.specs.declared.Command.{Command}
 use Rattle.epochline.specs.Decimal.{decimal_from, all_digits, value_from, is_number}
 use Rattle.epochline.specs.Lines.{newline, lines_from, space_in, command_of, config_in}
-use Rattle.epochline.specs.Output.{four_numbers, printed_size, printed, no_configuration, ends, output_of}
+use Rattle.epochline.specs.Output.{four_numbers, printed_size, printed, no_configuration, output_of}
 use Rattle.epochline.specs.Machine.{Machine, Turn, first, going, line_of, first_turn, later_turn, line_turn, byte_turn, end_turn}
 use Rattle.epochline.specs.Claims.{BytesMakeTheOutput, PrintsAreShort, DecimalIsRead, worked_input, worked_output}
 use Rattle.epochline.proofs.Decimals.{decimal_read, decimal_short, decimal_number}
@@ -39,13 +42,18 @@ four_short a b c d =
 abbrev Short : Turn → Type 0
 Short t = length t.prints ≤ printed_size
 
+-- what a line says is run, or the run ends
+said_short : (f : Command → Turn) (t : Turn) (c : Option Command) → ((k : Command) → Short (f k)) → Short t → Short (unwrap_or (option_map f c) t)
+said_short f t None h g = g
+said_short f t (Some k) h g = h k
+
 line_short : (m : Machine) → Short (line_turn m)
 unfolding line_turn first_turn later_turn no_configuration printed
 line_short m =
     either Short (eqb m.program.phase first) _ _
     (λ _. either Short (is_done (fresh_of (config_in (line_of m.program))).answer) _ _ (λ _. zero-le) (λ _. four_short 12 0 0 0))
     (λ _. either Short (eqb m.program.phase going) _ _
-    (λ _. either Short (ends (command_of (line_of m.program))) _ _ (λ _. zero-le) (λ _. four_short _ _ _ _))
+    (λ _. said_short _ _ (command_of (line_of m.program)) (λ _. four_short _ _ _ _) zero-le)
     (λ _. zero-le))
 
 pub prints_are_short : PrintsAreShort

@@ -1,5 +1,5 @@
 -- The laws of decimals: what their digits are, how many there are, and what number they say.
-use mathlib.Core.Bool.{Bool, true, false, not, ◌&&◌, ◌||◌, and_assoc, or-true}
+use mathlib.Core.Bool.{Bool, true, false, not, ◌&&◌, ◌||◌, or-true}
 use mathlib.Core.List.{List, [], ◌∷◌, ◌++◌}
 use mathlib.Core.Path.{◌≡◌, refl, ap, ap₂, ◌∙◌}
 use Prim.Native.Nat.{ℕ, zero, suc, ◌+◌, ◌-◌, ◌*◌, ◌/◌, ◌%◌, ◌^◌, ◌≤◌, ◌<◌}
@@ -110,10 +110,6 @@ digits_at (b ∷ l) zero h e =
 digits_at (b ∷ l) (suc i) h e = digits_at l i (omega arith) (and-true (leb 48 b && leb b 57) (all_digits l) e).1
 
 -- for a loop: one character more
-pub digits_next : (s : List ℕ) (i : ℕ) (good : Bool) → i < length s → all_digits s ≡ good && all_digits (drop i s) → all_digits s ≡ good && leb 48 (get_or s i 0) && leb (get_or s i 0) 57 && all_digits (drop (i + 1) s)
-unfolding all_digits
-digits_next s i good h e = e ∙ simp (add-one, drop-cons s i 0 h, and_assoc)
-
 pub value_next : (s : List ℕ) (i x : ℕ) → i < length s → value_from 0 s ≡ value_from x (drop i s) → value_from 0 s ≡ value_from (x * 10 + (get_or s i 0 - 48)) (drop (i + 1) s)
 unfolding value_from
 value_next s i x h e = e ∙ rw (add-one, drop-cons s i 0 h)

@@ -8,17 +8,19 @@ use borrow.Author.Tests.{ltb-true, ltb-false, eqb-true, eqb-false, eq-eqb, ne_eq
 use lib.Dec.{eqb, ltb, eqb-suc-zero}
 use lib.ListN.{length, take, set, replicate, length-set, length-append}
 use lib.Seq.{take_all, take-suc-set, take-append-le}
+use Rattle.std.specs.Prelude.{Option, None, Some}
+use Rattle.std.specs.Option.{unwrap_or, option_map}
 use Rattle.config.specs.Limits.{frame_size, kept_size, signatures_size}
 use Rattle.config.specs.Bounds.{good_feed, good_config}
 use Rattle.config.specs.Codes.{number_of, is_done}
 use Rattle.config.specs.declared.Config.{Config}
 use Rattle.node.specs.declared.Node.{Node}
-use Rattle.node.specs.Calls.{Out, fresh_of, restore_of, restore_answer}
+use Rattle.node.specs.Calls.{fresh_of, restore_of, restore_answer}
 use Rattle.epochline.specs.declared.Command.{Command}
 use Rattle.epochline.specs.declared.Program.{Program}
 use Rattle.epochline.specs.Decimal.{is_number}
 use Rattle.epochline.specs.Lines.{lines_from, space_in, command_of, config_in}
-use Rattle.epochline.specs.Output.{Running, calling, onward, printed, no_configuration, beginning, ends, output_from, first_line, output_of}
+use Rattle.epochline.specs.Output.{Running, calling, onward, printed, no_configuration, beginning, output_from, first_line, output_of}
 use Rattle.epochline.specs.Machine.{Machine, machine, Turn, turn, longer, first_turn, later_turn, line_turn, byte_turn, end_turn, printed_by, new_machine}
 use Rattle.epochline.proofs.Words.{command_front, config_front}
 
@@ -134,37 +136,38 @@ machine_of s phase held len =
     machine (program_of s.whole_now.node phase held len) s.outbox s.whole_now.kept s.whole_now.signatures
 
 -- what a command comes to: the run ends, or it goes on
-abbrev later_with : Running → List ℕ → Command → Bool → Turn
-later_with s held k last =
-    let o = calling s k in
-    cond last (turn (machine_of s 2 held 0) []) (turn (machine_of (onward o) 1 held 0) (printed o.result.answer o.result.node))
+abbrev later_with : Running → List ℕ → Option Command → Turn
+later_with s held said =
+    unwrap_or
+    (option_map (λ k. let o = calling s k in turn (machine_of (onward o) 1 held 0) (printed o.result.answer o.result.node)) said)
+    (turn (machine_of s 2 held 0) [])
 
-later_line : (s : Running) (held : List ℕ) (len : ℕ) (line : List ℕ) → Holds held len line → line_turn (machine_of s 1 held len) ≡ later_with s held (command_of line) (ends (command_of line))
+later_line : (s : Running) (held : List ℕ) (len : ℕ) (line : List ℕ) → Holds held len line → line_turn (machine_of s 1 held len) ≡ later_with s held (command_of line)
 unfolding line_turn later_turn
 later_line s held len line h =
-    ap (λ (k : Command). later_with s held k (ends k)) (ap command_of (holds_line held len line h) ∙ command_front line)
+    ap (later_with s held) (ap command_of (holds_line held len line h) ∙ command_front line)
 
-later_prints : (s : Running) (held line : List ℕ) → (later_with s held (command_of line) (ends (command_of line))).prints ≡ output_from s (line ∷ [])
+later_prints : (s : Running) (held line : List ℕ) → (later_with s held (command_of line)).prints ≡ output_from s (line ∷ [])
 unfolding output_from
-later_prints s held line = go (ends (command_of line))
+later_prints s held line = go (command_of line)
   where
-    said : List ℕ
-    said = let o = calling s (command_of line) in printed o.result.answer o.result.node
+    said : Command → List ℕ
+    said k = let o = calling s k in printed o.result.answer o.result.node
 
-    go : (t : Bool) → (later_with s held (command_of line) t).prints ≡ cond t [] (said ++ [])
-    go true = refl
-    go false = sym (append-nil said)
+    go : (c : Option Command) → (later_with s held c).prints ≡ unwrap_or (option_map (λ k. said k ++ []) c) []
+    go None = refl
+    go (Some k) = sym (append-nil (said k))
 
-later_from : (s : Running) (held line input : List ℕ) → (let s' = onward (calling s (command_of line)) in printed_by (machine_of s' 1 held 0) input ≡ output_from s' (lines_from [] input)) → from (later_with s held (command_of line) (ends (command_of line))) input ≡ output_from s (line ∷ lines_from [] input)
+later_from : (s : Running) (held line input : List ℕ) → ((s' : Running) → printed_by (machine_of s' 1 held 0) input ≡ output_from s' (lines_from [] input)) → from (later_with s held (command_of line)) input ≡ output_from s (line ∷ lines_from [] input)
 unfolding output_from
-later_from s held line input ih = go (ends (command_of line))
+later_from s held line input ih = go (command_of line)
   where
-    o : Out
-    o = calling s (command_of line)
+    said : Command → List ℕ
+    said k = let o = calling s k in printed o.result.answer o.result.node
 
-    go : (t : Bool) → from (later_with s held (command_of line) t) input ≡ cond t [] (printed o.result.answer o.result.node ++ output_from (onward o) (lines_from [] input))
-    go true = ended_silent input _ refl
-    go false = ap (λ (l : List ℕ). printed o.result.answer o.result.node ++ l) ih
+    go : (c : Option Command) → from (later_with s held c) input ≡ unwrap_or (option_map (λ k. said k ++ output_from (onward (calling s k)) (lines_from [] input)) c) []
+    go None = ended_silent input _ refl
+    go (Some k) = ap (λ (l : List ℕ). said k ++ l) (ih (onward (calling s k)))
 
 going_end : (s : Running) (held : List ℕ) (len : ℕ) (line : List ℕ) → Holds held len line → printed_by (machine_of s 1 held len) [] ≡ output_from s (lines_from line [])
 unfolding lines_from output_from printed_by end_turn
@@ -178,10 +181,9 @@ going_whole : (input : List ℕ) (s : Running) (held : List ℕ) (len : ℕ) (li
 going_whole [] s held len line h = going_end s held len line h
 going_whole (b ∷ input) s held len line h =
     let next = holds_next s.whole_now.node 1 held len b line h in
-    let s' = onward (calling s (command_of line)) in
     byte_ways (output_from s) (machine_of s 1 held len) b line input
     (ap (λ (t : Turn). from t input) (later_line s held len line h)
-    ∙ later_from s held line input (going_whole input s' held 0 [] (holds_none held h.size)))
+    ∙ later_from s held line input (λ s'. going_whole input s' held 0 [] (holds_none held h.size)))
     (ap (λ (p : Program). printed_by (machine p s.outbox s.whole_now.kept s.whole_now.signatures) input) next.made
     ∙ going_whole input s next.held_after next.len_after (line ++ (b ∷ [])) next.holds)
 

@@ -6,6 +6,7 @@ use Prim.Native.Nat.{ℕ}
 use borrow.Author.Tests.{eq-eqb, ne_eqb}
 use lib.Dec.{eqb}
 use lib.ListN.{length, replicate}
+use Rattle.std.specs.Prelude.{None, Some}
 use Rattle.wire.specs.Numbers.{be_bytes}
 use Rattle.wire.specs.Overlay.{over}
 use Rattle.wire.proofs.Overlay.{over_none}
@@ -19,7 +20,7 @@ use Rattle.epochline.specs.declared.Command.{Command}
 use Rattle.epochline.specs.declared.Fed.{Fed}
 use Rattle.epochline.specs.declared.Program.{Program}
 use Rattle.epochline.specs.Lines.{command_of, config_in}
-use Rattle.epochline.specs.Output.{calling, printed, no_configuration, ends}
+use Rattle.epochline.specs.Output.{calling, printed, no_configuration}
 use Rattle.epochline.specs.Machine.{Machine, machine, Turn, turn, Leaves, line_of, longer, on_line, running_in, first_turn, later_turn, line_turn, byte_turn, end_turn}
 
 -- a call leaves the turn that it takes
@@ -50,13 +51,13 @@ first_ends m made e done = rw (← e, done)
 
 -- ---- a later line
 
-pub later_ends : (m : Machine) (k : Command) → k ≡ command_of (line_of m.program) → ends k ≡ true → later_turn m ≡ turn (machine (on_line m.program m.program.node 2) m.outbox m.kept m.signatures) []
+pub later_ends : (m : Machine) → None ≡ command_of (line_of m.program) → later_turn m ≡ turn (machine (on_line m.program m.program.node 2) m.outbox m.kept m.signatures) []
 unfolding later_turn
-later_ends m k e last = rw (← e, last)
+later_ends m e = rw (← e)
 
-pub later_goes : (m : Machine) (k : Command) (r : Outcome) (outbox kept signatures : List ℕ) → k ≡ command_of (line_of m.program) → ends k ≡ false → out r outbox kept signatures ≡ calling (running_in m) k → later_turn m ≡ turn (machine (on_line m.program r.node 1) outbox kept signatures) (printed r.answer r.node)
+pub later_goes : (m : Machine) (k : Command) (r : Outcome) (outbox kept signatures : List ℕ) → Some k ≡ command_of (line_of m.program) → out r outbox kept signatures ≡ calling (running_in m) k → later_turn m ≡ turn (machine (on_line m.program r.node 1) outbox kept signatures) (printed r.answer r.node)
 unfolding later_turn
-later_goes m k r outbox kept signatures e last o = rw (← e, last, ← o)
+later_goes m k r outbox kept signatures e o = rw (← e, ← o)
 
 -- ---- by the phase
 

@@ -3,37 +3,28 @@ use mathlib.Core.Bool.{Bool, true, false, cond, ◌&&◌}
 use mathlib.Core.List.{List}
 use mathlib.Core.Path.{◌≡◌, refl, sym, ap, ◌∙◌}
 use Prim.Native.Nat.{ℕ, suc, ◌+◌, ◌≤◌, ◌<◌}
-use native.Mathlib.Numerals.{add-one}
 use native.Mathlib.Omega.{arith}
-use borrow.Author.Tests.{eqb-true, ne_eqb}
+use borrow.Author.Tests.{eqb-true, eq-eqb, ne_eqb}
 use lib.Dec.{eqb, lit<}
-use lib.ListN.{length, get_or, take, drop, length-take, length-drop, drop_of_length-le}
-use lib.Seq.{drop-cons, take_all, length-take-le}
+use lib.ListN.{length, get_or, take, length-take, length-drop}
+use lib.Seq.{take_all, length-take-le}
+use Rattle.std.specs.Prelude.{None}
+use Rattle.std.proofs.lemmas.List.Recursion.{is_position_or_len}
+use Rattle.std.proofs.lemmas.List.Sums.{position_or_len_is}
 use Rattle.quorum.proofs.Cases.{cases, test_false, split}
 use Rattle.config.specs.Limits.{last_epoch}
 use Rattle.config.proofs.Facts.{and-true}
-use Rattle.epochline.specs.declared.Command.TheVariants.{Other}
 use Rattle.epochline.specs.Lines.{space_in, word, behind, only, is_member, is_epoch, heard_in, command_of, feed_of, config_in}
 use Rattle.epochline.proofs.Decimals.{number_facts}
 
 -- ---- the first space
 
--- for a loop: the first space is at i, or behind it
-pub space_here : (s : List ℕ) (i : ℕ) → i < length s → get_or s i 0 ≡ 32 → space_in s ≡ i + space_in (drop i s) → i ≡ space_in s
+-- no space stands before it, and it is one unless it is the length
+pub space_at : (s : List ℕ) (i : ℕ) → i ≤ length s → ((k : ℕ) → k < i → get_or s k 0 ≡ 32 → ⊥) → (i < length s → get_or s i 0 ≡ 32) → i ≡ space_in s
 unfolding space_in
-space_here s i h e p = sym (p ∙ rw (drop-cons s i 0 h, e) (omega arith))
-
-pub space_next : (s : List ℕ) (i : ℕ) → i < length s → (get_or s i 0 ≡ 32 → ⊥) → space_in s ≡ i + space_in (drop i s) → space_in s ≡ i + 1 + space_in (drop (i + 1) s)
-unfolding space_in
-space_next s i h e p = p ∙ rw (drop-cons s i 0 h, ne_eqb (get_or s i 0) 32 e, add-one i) (omega arith)
-
-pub space_none : (s : List ℕ) (i : ℕ) → length s ≤ i → space_in s ≡ i + space_in (drop i s) → i ≡ space_in s
-unfolding space_in
-space_none s i h p = sym (p ∙ rw (drop_of_length-le s {i = i} h) (omega arith))
-
--- where there is no space, nothing stands behind it
-pub behind_none : (s : List ℕ) (i : ℕ) → length s ≤ i → i ≡ space_in s → drop i s ≡ behind s
-behind_none s i h e = drop_of_length-le s {i = i} h ∙ sym (drop_of_length-le s {i = suc (space_in s)} (omega arith))
+space_at s i h none found =
+    sym (is_position_or_len space_in (λ b. eqb b 32) refl (λ b l. ap (cond (eqb b 32) 0) (omega arith)) s
+    ∙ position_or_len_is (λ b. eqb b 32) s i 0 h (λ k g. ne_eqb (get_or s k 0) 32 (none k g)) (λ g. eq-eqb (get_or s i 0) 32 (found g)))
 
 -- ---- a line that is too long says nothing
 
@@ -41,7 +32,7 @@ behind_none s i h e = drop_of_length-le s {i = i} h ∙ sym (drop_of_length-le s
 length_words : (l : List ℕ) → length l ≤ length (word l) + 1 + length (behind l)
 length_words l = rw (length-take (space_in l) l, length-drop (suc (space_in l)) l) (omega arith)
 
-heard_long : (l : List ℕ) → 14 < length l → heard_in l ≡ Other
+heard_long : (l : List ℕ) → 14 < length l → heard_in l ≡ None
 unfolding heard_in
 heard_long l h = rw (test_false (is_member (word l) && is_epoch (behind l)) none)
   where
@@ -55,11 +46,11 @@ heard_long l h = rw (test_false (is_member (word l) && is_epoch (behind l)) none
 only_long : (b : ℕ) (l : List ℕ) → 1 < length l → only b l ≡ false
 only_long b l h = rw (ne_eqb (length l) 1 (omega arith))
 
-command_long : (l : List ℕ) → 16 < length l → command_of l ≡ Other
+command_long : (l : List ℕ) → 16 < length l → command_of l ≡ None
 unfolding command_of
 command_long l h = rw (only_long 83 l (omega arith), only_long 80 l (omega arith)) (go (only 78 (word l)) refl)
   where
-    go : (b : Bool) → only 78 (word l) ≡ b → cond b (heard_in (behind l)) Other ≡ Other
+    go : (b : Bool) → only 78 (word l) ≡ b → cond b (heard_in (behind l)) None ≡ None
     go true e =
         let one = eqb-true (length (word l)) 1 (and-true (eqb (length (word l)) 1) (eqb (get_or (word l) 0 0) 78) e).0 in
         heard_long (behind l) (omega (arith, length_words l))
@@ -86,7 +77,7 @@ front f a long l =
     (λ h. long (take 17 l) (rw (length-take-le 17 l (omega arith)) (lit< tt)) ∙ sym (long l (omega arith)))
 
 pub command_front : (l : List ℕ) → command_of (take 17 l) ≡ command_of l
-command_front = front command_of Other command_long
+command_front = front command_of None command_long
 
 pub config_front : (l : List ℕ) → config_in (take 17 l) ≡ config_in l
 config_front = front config_in (feed_of 0 0 0) (λ l h. config_long l (omega arith))

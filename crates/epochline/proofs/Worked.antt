@@ -4,6 +4,7 @@ use mathlib.Core.List.{List, [], ◌∷◌, ◌++◌}
 use mathlib.Core.Path.{◌≡◌, refl, ap, ◌∙◌}
 use Prim.Native.Nat.{ℕ}
 use lib.ListN.{length, drop, replicate}
+use Rattle.std.specs.Prelude.{Some}
 use Rattle.wire.specs.Numbers.{be_from, be_number, be_bytes}
 use Rattle.wire.proofs.Overlay.{length_over}
 use Rattle.quorum.specs.Marks.{flags}
@@ -30,7 +31,7 @@ use Rattle.epochline.specs.declared.Command.{Command}
 use Rattle.epochline.specs.declared.Command.TheVariants.{Start, Heard, Progress}
 use Rattle.epochline.specs.Decimal.{decimal_from, all_digits, value_from, is_number}
 use Rattle.epochline.specs.Lines.{lines_from, lines_of, space_in, heard_in, command_of, feed_of}
-use Rattle.epochline.specs.Output.{Running, running, event_of, calling, printed, ends, output_from}
+use Rattle.epochline.specs.Output.{Running, running, event_of, calling, printed, output_from}
 use Rattle.epochline.specs.Claims.{worked_input, worked_output}
 
 -- ---- a line
@@ -56,10 +57,10 @@ called_settled : (n : Node) (e : Event) (outbox kept signatures : List ℕ) → 
 unfolding called after_state good_state good_kept roomy
 called_settled n e outbox kept signatures h good none done = rw (good, none, h.of_outbox, h.of_kept, h.of_signatures, done)
 
-goes_on : (n n' : Node) (l : List ℕ) (ls : List (List ℕ)) (rest : List ℕ) → ends (command_of l) ≡ false → Goes n n' (command_of l) → ((outbox kept signatures : List ℕ) → Sized outbox kept signatures → output_from (running n' outbox kept signatures) ls ≡ rest) → (outbox kept signatures : List ℕ) → Sized outbox kept signatures → output_from (running n outbox kept signatures) (l ∷ ls) ≡ printed Done n' ++ rest
+goes_on : (n n' : Node) (k : Command) (l : List ℕ) (ls : List (List ℕ)) (rest : List ℕ) → command_of l ≡ Some k → Goes n n' k → ((outbox kept signatures : List ℕ) → Sized outbox kept signatures → output_from (running n' outbox kept signatures) ls ≡ rest) → (outbox kept signatures : List ℕ) → Sized outbox kept signatures → output_from (running n outbox kept signatures) (l ∷ ls) ≡ printed Done n' ++ rest
 unfolding output_from calling settled
-goes_on n n' l ls rest e g ih outbox kept signatures h =
-    rw (e, called_settled n (event_of n.config (command_of l)) outbox kept signatures h g.good g.none g.done, g.after kept signatures)
+goes_on n n' k l ls rest e g ih outbox kept signatures h =
+    rw (e, called_settled n (event_of n.config k) outbox kept signatures h g.good g.none g.done, g.after kept signatures)
     (ap (λ (r : List ℕ). printed Done n' ++ r) (ih _ _ _ (record {
       of_outbox = length_over outbox 0 _ ∙ h.of_outbox;
       of_kept = g.of_kept kept signatures ∙ h.of_kept;
@@ -129,8 +130,8 @@ changes = record { good = refl; none = refl; done = refl; after = λ k s. refl; 
 pub later_lines : (outbox kept signatures : List ℕ) → Sized outbox kept signatures → output_from (running made outbox kept signatures) (lines_of (drop 6 worked_input)) ≡ worked_output
 unfolding lines_from printed decimal_from command_of heard_in is_number all_digits value_from space_in number_of
 later_lines =
-    goes_on made started _ _ _ refl starts
-    (goes_on started heard_seven _ _ _ refl hears.0
-    (goes_on heard_seven heard_six _ _ _ refl hears.1
-    (goes_on heard_six moved _ _ _ refl hears.2
-    (goes_on moved changed _ [] [] refl changes (λ o k s _. no_more (running changed o k s))))))
+    goes_on made started _ _ _ _ refl starts
+    (goes_on started heard_seven _ _ _ _ refl hears.0
+    (goes_on heard_seven heard_six _ _ _ _ refl hears.1
+    (goes_on heard_six moved _ _ _ _ refl hears.2
+    (goes_on moved changed _ _ [] [] refl changes (λ o k s _. no_more (running changed o k s))))))

@@ -1,10 +1,10 @@
 -- Document 01, the epoch program: its lines, and what each says.
-use Rattle.std.specs.Prelude.{Bool, cond, ◌&&◌, List, [], ◌∷◌, ◌++◌, ℕ, suc, eqb, length, get_or, take, drop}
+use Rattle.std.specs.Prelude.{Bool, cond, ◌&&◌, Option, None, Some, List, [], ◌∷◌, ◌++◌, ℕ, suc, eqb, length, get_or, take, drop}
 use Rattle.config.specs.Limits.{last_epoch}
 use Rattle.config.specs.Bounds.{config_of}
 use Rattle.config.specs.declared.Config.{Config}
 use Rattle.epochline.specs.declared.Command.{Command}
-use Rattle.epochline.specs.declared.Command.TheVariants.{Start, Heard, Progress, Other}
+use Rattle.epochline.specs.declared.Command.TheVariants.{Start, Heard, Progress}
 use Rattle.epochline.specs.Decimal.{is_number, value_of}
 
 abbrev pub newline : ℕ
@@ -61,13 +61,13 @@ abbrev pub letter_n : ℕ
 letter_n = 78
 
 -- "member epoch"
-unfoldable pub heard_in : List ℕ → Command
-heard_in l = cond (is_member (word l) && is_epoch (behind l)) (Heard (value_of (word l)) (value_of (behind l))) Other
+unfoldable pub heard_in : List ℕ → Option Command
+heard_in l = cond (is_member (word l) && is_epoch (behind l)) (Some (Heard (value_of (word l)) (value_of (behind l)))) None
 
--- "S (Start), "N member epoch" or P (T_progress)", or a line of another shape
-unfoldable pub command_of : List ℕ → Command
+-- "S (Start), "N member epoch" or P (T_progress)"; nothing where a line has another shape
+unfoldable pub command_of : List ℕ → Option Command
 command_of l =
-    cond (only letter_s l) Start (cond (only letter_p l) Progress (cond (only letter_n (word l)) (heard_in (behind l)) Other))
+    cond (only letter_s l) (Some Start) (cond (only letter_p l) (Some Progress) (cond (only letter_n (word l)) (heard_in (behind l)) None))
 
 -- the configuration of n members, f of whom may be faulty, for the member `own`; the rest of it is in range, and cannot be seen in what the program prints
 abbrev pub feed_of : ℕ → ℕ → ℕ → Config

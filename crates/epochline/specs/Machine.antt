@@ -1,5 +1,6 @@
 -- The epoch program read a byte at a time, in memory that does not grow with the input.
 use Rattle.std.specs.Prelude.{◌≡◌, not, cond, ◌&&◌, List, [], ◌∷◌, ◌++◌, ℕ, suc, min, eqb, ltb, length, replicate, set, take}
+use Rattle.std.specs.Option.{unwrap_or, option_map}
 use Rattle.config.specs.Limits.{frame_size, kept_size, signatures_size}
 use Rattle.config.specs.Codes.{is_done}
 use Rattle.wire.specs.Overlay.{over}
@@ -8,7 +9,7 @@ use Rattle.node.specs.Calls.{fresh_of}
 use Rattle.epochline.specs.declared.Program.{Program}
 use Rattle.epochline.specs.declared.Fed.{Fed}
 use Rattle.epochline.specs.Lines.{newline, command_of, config_in, feed_of}
-use Rattle.epochline.specs.Output.{Running, running, calling, onward, printed, no_configuration, ends}
+use Rattle.epochline.specs.Output.{Running, running, calling, onward, printed, no_configuration}
 
 -- the longest line that is read has 16 bytes ("N 255 4294967295"); of a longer one, which has another shape, 17 are kept
 abbrev pub line_size : ℕ
@@ -87,11 +88,9 @@ going_on p s = machine (on_line p s.whole_now.node going) s.outbox s.whole_now.k
 -- a later line
 unfoldable pub later_turn : Machine → Turn
 later_turn m =
-    let k = command_of (line_of m.program) in
-    let o = calling (running_in m) k in
-    cond (ends k)
+    unwrap_or
+    (option_map (λ k. let o = calling (running_in m) k in turn (going_on m.program (onward o)) (printed o.result.answer o.result.node)) (command_of (line_of m.program)))
     (turn (machine (on_line m.program m.program.node ended) m.outbox m.kept m.signatures) [])
-    (turn (going_on m.program (onward o)) (printed o.result.answer o.result.node))
 
 unfoldable pub line_turn : Machine → Turn
 line_turn m =

@@ -1,5 +1,6 @@
 -- Document 01, the epoch program: what it prints, from the bytes of its input to the bytes of its output.
-use Rattle.std.specs.Prelude.{Bool, true, false, cond, List, [], ◌∷◌, ◌++◌, ℕ, ◌+◌, ◌*◌, eqb, pos, replicate}
+use Rattle.std.specs.Prelude.{cond, List, [], ◌∷◌, ◌++◌, ℕ, ◌+◌, ◌*◌, eqb, pos, replicate}
+use Rattle.std.specs.Option.{unwrap_or, option_map}
 use Rattle.config.specs.Limits.{frame_size, kept_size, signatures_size}
 use Rattle.config.specs.Bounds.{nothing_committed}
 use Rattle.config.specs.Codes.{number_of, is_done}
@@ -13,7 +14,7 @@ use Rattle.node.specs.declared.Fired.TheVariants as fired
 use Rattle.node.specs.Event.{Whole, whole, delivery, Event, starts, delivers, fires}
 use Rattle.node.specs.Calls.{fresh_of, Out, called}
 use Rattle.epochline.specs.declared.Command.{Command}
-use Rattle.epochline.specs.declared.Command.TheVariants.{Start, Heard, Progress, Other}
+use Rattle.epochline.specs.declared.Command.TheVariants.{Start, Heard, Progress}
 use Rattle.epochline.specs.Decimal.{most_digits, decimal}
 use Rattle.epochline.specs.Lines.{newline, space, lines_of, command_of, config_in}
 
@@ -31,13 +32,11 @@ running n outbox kept signatures = record { whole_now = whole n kept signatures;
 abbrev pub beginning : Node → Running
 beginning n = running n (replicate frame_size 0) (replicate kept_size 0) (replicate signatures_size 0)
 
--- the event of a command: the time is 0, nothing is committed, no bit is set, and a frame comes over its sender's link. A line of another
--- shape has none, and is not asked for one: it ends the run
+-- the event of a command: the time is 0, nothing is committed, no bit is set, and a frame comes over its sender's link
 abbrev pub event_of : Config → Command → Event
 event_of c Start = starts 0
 event_of c (Heard j x) = delivers (delivery j 0 (pos 0) nothing_committed 0 (frame_bytes c.n c.number j (new_epoch x)))
 event_of c Progress = fires fired.Progress 0
-event_of c Other = starts 0
 
 -- a command's call: "each call writes at position 0"
 unfoldable pub calling : Running → Command → Out
@@ -71,17 +70,10 @@ no_configuration = four_numbers 12 0 0 0
 -- ---- the whole output
 
 -- "a later line of another shape just ends it"
-abbrev pub ends : Command → Bool
-ends Start = false
-ends (Heard j x) = false
-ends Progress = false
-ends Other = true
-
 unfoldable pub output_from : Running → List (List ℕ) → List ℕ
 output_from s [] = []
 output_from s (l ∷ ls) =
-    let o = calling s (command_of l) in
-    cond (ends (command_of l)) [] (printed o.result.answer o.result.node ++ output_from (onward o) ls)
+    unwrap_or (option_map (λ k. let o = calling s k in printed o.result.answer o.result.node ++ output_from (onward o) ls) (command_of l)) []
 
 abbrev pub first_line : List (List ℕ) → List ℕ
 first_line [] = no_configuration

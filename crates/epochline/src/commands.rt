@@ -1,25 +1,11 @@
 // The call of a node that a command stands for.
 ghost use Rattle.std.specs.Prelude.{◌≡◌};
 ghost use Rattle.node.specs.Calls.{out};
-ghost use Rattle.epochline.specs.Output.{running, calling, ends};
+ghost use Rattle.epochline.specs.Output.{running, calling};
 
 use crate::Command;
 use config::{Commit, Config};
 use node::{Fired, Node, Outcome};
-
-impl Command {
-    // Whether a line ends the run.
-    pub(crate) fn ends(self) -> bool
-        ensures { result ≡ ends self }
-    {
-        match self {
-            Command::Start => false,
-            Command::Heard(_, _) => false,
-            Command::Progress => false,
-            Command::Other => true,
-        }
-    }
-}
 
 // The call of a command.
 #[tactic(auto, unfolding(crate::specs::Output::calling))]
@@ -36,7 +22,6 @@ pub(crate) fn calling(
         Command::Start => node.start(0, outbox, 0, &kept[..], &signatures[..]),
         Command::Heard(j, x) => heard(node, j, x, outbox, kept, signatures),
         Command::Progress => node.timer(Fired::Progress, 0, outbox, 0, &kept[..], signatures),
-        Command::Other => node.start(0, outbox, 0, &kept[..], &signatures[..]),
     }
 }
 

@@ -5,18 +5,18 @@ mod commands;
 mod printing;
 mod reading;
 
-ghost use Rattle.std.specs.Prelude.{◌≡◌, List, ℕ, min};
+ghost use Rattle.std.specs.Prelude.{◌≡◌, List, ℕ};
 ghost use Rattle.node.specs.Calls.{out};
-ghost use Rattle.epochline.specs.Machine.{new_program, line_size, longer, on_line, machine, first_turn, later_turn, line_turn, byte_turn, end_turn, Leaves};
+ghost use Rattle.epochline.specs.Machine.{new_program, line_of, longer, on_line, machine, first_turn, later_turn, line_turn, byte_turn, end_turn, Leaves};
 
 use config::Answer;
 use node::Node;
 
-const NEWLINE: u8 = 10;
+const NEWLINE: u8 = b'\n';
 
-const SPACE: u8 = 32;
+const SPACE: u8 = b' ';
 
-const NOUGHT: u8 = 48;
+const NOUGHT: u8 = b'0';
 
 // What a line says.
 #[derive(Clone, Copy)]
@@ -25,8 +25,6 @@ pub enum Command {
     // a member, and the epoch of its NEWEPOCH
     Heard(u8, u32),
     Progress,
-    // a line of another shape
-    Other,
 }
 
 // A run of the program.
@@ -63,10 +61,8 @@ impl Program {
     pub fn new() -> Self
         ensures { result ≡ new_program }
     {
-        let made = Node::fresh(reading::config_of(0, 0, 0));
-        let node = made.node;
         Program {
-            node,
+            node: Node::fresh(reading::config_of(0, 0, 0)).node,
             phase: Program::FIRST,
             line: [0; Program::LINE],
             len: 0,
@@ -143,10 +139,9 @@ impl Program {
     ) -> Fed
         ensures { Leaves result outbox.new kept.new signatures.new out.old out.new (line_turn (machine self outbox.old kept.old signatures.old)) }
     {
-        let phase = self.phase;
-        match phase {
-            0 => self.first_turn(out),
-            1 => self.later_turn(outbox, kept, signatures, out),
+        match self.phase {
+            Program::FIRST => self.first_turn(out),
+            Program::GOING => self.later_turn(outbox, kept, signatures, out),
             _ => Fed {
                 program: self,
                 written: 0,
@@ -159,20 +154,16 @@ impl Program {
     fn first_turn(self, out: &mut [u8; Program::PRINTED]) -> Fed
         ensures { (outbox kept signatures : List ℕ) → Leaves result outbox kept signatures out.old out.new (first_turn (machine self outbox kept signatures)) }
     {
-        let line = self.line;
-        let end = self.line_end();
-        let made = Node::fresh(reading::config_in(&line[..end]));
-        let node = made.node;
-        let answer = made.answer;
-        if answer.is_done() {
+        let made = Node::fresh(reading::config_in(self.line_so_far()));
+        if made.answer.is_done() {
             return Fed {
-                program: self.on_line(node, Program::GOING),
+                program: self.on_line(made.node, Program::GOING),
                 written: 0,
             };
         }
         let written = printing::print(out, Answer::Config.number(), 0, 0, 0);
         Fed {
-            program: self.on_line(node, Program::ENDED),
+            program: self.on_line(made.node, Program::ENDED),
             written,
         }
     }
@@ -187,21 +178,16 @@ impl Program {
     ) -> Fed
         ensures { Leaves result outbox.new kept.new signatures.new out.old out.new (later_turn (machine self outbox.old kept.old signatures.old)) }
     {
-        let line = self.line;
-        let end = self.line_end();
-        let command = reading::command_of(&line[..end]);
-        if command.ends() {
+        let Some(command) = reading::command_of(self.line_so_far()) else {
             return Fed {
                 program: self.on_line(self.node, Program::ENDED),
                 written: 0,
             };
-        }
+        };
         let outcome = commands::calling(self.node, command, outbox, kept, signatures);
-        let node = outcome.node;
-        let answer = outcome.answer;
         Fed {
-            program: self.on_line(node, Program::GOING),
-            written: printing::print_node(out, answer, node),
+            program: self.on_line(outcome.node, Program::GOING),
+            written: printing::print_node(out, outcome.answer, outcome.node),
         }
     }
 
@@ -217,14 +203,10 @@ impl Program {
         }
     }
 
-    // How many bytes of the line there are.
-    fn line_end(self) -> usize
-        ensures { result ≡ min self.len line_size }
+    // What there is of the line.
+    fn line_so_far(&self) -> &[u8]
+        ensures { result.now ≡ line_of self.now }
     {
-        if self.len < Program::LINE {
-            self.len
-        } else {
-            Program::LINE
-        }
+        &self.line[..self.len.min(Program::LINE)]
     }
 }

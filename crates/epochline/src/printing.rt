@@ -14,13 +14,12 @@ use node::Node;
 pub(crate) fn print_node(out: &mut [u8; Program::PRINTED], answer: Answer, node: Node) -> usize
     ensures { (out.new ≡ over out.old 0 (printed answer node)) × (result ≡ length (printed answer node)) }
 {
-    let pace = node.pace;
     print(
         out,
         answer.number(),
-        pace.epoch,
+        node.pace.epoch,
         leader_shown(node),
-        pace.highest,
+        node.pace.highest,
     )
 }
 
@@ -28,12 +27,10 @@ pub(crate) fn print_node(out: &mut [u8; Program::PRINTED], answer: Answer, node:
 fn leader_shown(node: Node) -> u8
     ensures { result ≡ leader_shown node }
 {
-    let config = node.config;
-    let pace = node.pace;
-    if config.n == 0 {
+    if node.config.n == 0 {
         return 0;
     }
-    config::leader_of(config.n, pace.epoch)
+    config::leader_of(node.config.n, node.pace.epoch)
 }
 
 // Prints four numbers, one space apart, and a newline.
@@ -46,11 +43,10 @@ pub(crate) fn print(
 ) -> usize
     ensures { (out.new ≡ over out.old 0 (four_numbers code epoch leader highest)) × (result ≡ length (four_numbers code epoch leader highest)) }
 {
-    let all: &mut [u8] = out;
-    let at = put(all, 0, code as u32, SPACE);
-    let at = put(all, at, epoch, SPACE);
-    let at = put(all, at, leader as u32, SPACE);
-    put(all, at, highest, NEWLINE)
+    let at = put(out, 0, u32::from(code), SPACE);
+    let at = put(out, at, epoch, SPACE);
+    let at = put(out, at, u32::from(leader), SPACE);
+    put(out, at, highest, NEWLINE)
 }
 
 // Puts a number in decimal at a place, and a character behind it; the place behind both.
@@ -60,9 +56,7 @@ fn put(out: &mut [u8], at: usize, x: u32, then: u8) -> usize
 {
     let end = at + places(x);
     let mut rest = x;
-    let mut i = end;
-    while at < i {
-        i -= 1;
+    for i in (at..end).rev() {
         out[i] = (rest % 10) as u8 + NOUGHT;
         rest /= 10;
     }

@@ -29,79 +29,63 @@ pub(crate) fn config_in(line: &[u8]) -> Config
     config_of(0, 0, 0)
 }
 
-// What a later line says.
+// What a later line says; nothing where it has another shape.
 #[tactic(auto, unfolding(crate::specs::Lines::command_of))]
-pub(crate) fn command_of(line: &[u8]) -> Command
+pub(crate) fn command_of(line: &[u8]) -> Option<Command>
     ensures { result ≡ command_of line.now }
 {
     if only(b'S', line) {
-        return Command::Start;
+        return Some(Command::Start);
     }
     if only(b'P', line) {
-        return Command::Progress;
+        return Some(Command::Progress);
     }
     if only(b'N', word(line)) {
         return heard_in(behind(line));
     }
-    Command::Other
+    None
 }
 
-// "member epoch"
+// "member epoch"; nothing where it has another shape
 #[tactic(auto, using(crate::proofs::Decimals::number_facts), unfolding(crate::specs::Lines::heard_in))]
-fn heard_in(line: &[u8]) -> Command
+fn heard_in(line: &[u8]) -> Option<Command>
     ensures { result ≡ heard_in line.now }
 {
     let member = word(line);
     let epoch = behind(line);
     if is_member(member) & is_number(10, Config::LAST_EPOCH as u64, epoch) {
-        return Command::Heard(value(member) as u8, value(epoch) as u32);
+        return Some(Command::Heard(value(member) as u8, value(epoch) as u32));
     }
-    Command::Other
+    None
 }
 
 // Whether this character is all there is.
 fn only(b: u8, s: &[u8]) -> bool
     ensures { result ≡ only b s.now }
 {
-    if s.len() != 1 {
-        return false;
-    }
-    s[0] == b
+    s.len() == 1 && s[0] == b
 }
 
 // What stands before the first space.
 fn word(s: &[u8]) -> &[u8]
     ensures { result.now ≡ word s.now }
 {
-    let end = space_in(s);
-    &s[..end]
+    &s[..space_in(s)]
 }
 
 // What stands behind the first space.
 fn behind(s: &[u8]) -> &[u8]
     ensures { result.now ≡ behind s.now }
 {
-    let end = space_in(s);
-    if end < s.len() {
-        let start = end + 1;
-        return &s[start..];
-    }
-    &s[end..]
+    s.get(space_in(s) + 1..).unwrap_or(&[])
 }
 
 // The place of the first space; the length where there is none.
-#[tactic(auto, using(crate::proofs::Words::space_here, crate::proofs::Words::space_next, crate::proofs::Words::space_none))]
+#[tactic(auto, using(crate::proofs::Words::space_at))]
 fn space_in(s: &[u8]) -> usize
     ensures { (result ≡ space_in s.now) × (result ≤ length s.now) }
 {
-    let mut i: usize = 0;
-    while i < s.len() {
-        if s[i] == SPACE {
-            return i;
-        }
-        i += 1;
-    }
-    i
+    s.iter().position(|b| *b == SPACE).unwrap_or(s.len())
 }
 
 // Whether these digits say a number that a member can have.
@@ -127,17 +111,10 @@ fn is_number(places: usize, limit: u64, s: &[u8]) -> bool
     ((len == 1) | (s[0] != NOUGHT)) & (value(s) <= limit)
 }
 
-#[tactic(auto, using(crate::proofs::Decimals::digits_next), unfolding(crate::specs::Decimal::all_digits))]
 fn all_digits(s: &[u8]) -> bool
     ensures { result ≡ all_digits s.now }
 {
-    let mut good = true;
-    let mut i: usize = 0;
-    while i < s.len() {
-        good = good & (NOUGHT <= s[i]) & (s[i] <= NOUGHT + 9);
-        i += 1;
-    }
-    good
+    s.iter().all(|b| matches!(*b, b'0'..=b'9'))
 }
 
 // The number that digits say.
@@ -147,10 +124,8 @@ fn value(s: &[u8]) -> u64
     ensures { (result ≡ value_of s.now) × (result < 10 ^ length s.now) }
 {
     let mut x: u64 = 0;
-    let mut i: usize = 0;
-    while i < s.len() {
-        x = x * 10 + (s[i] - NOUGHT) as u64;
-        i += 1;
+    for b in s {
+        x = x * 10 + u64::from(*b - NOUGHT);
     }
     x
 }

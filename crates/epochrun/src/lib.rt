@@ -25,12 +25,11 @@ pub fn begin(outbox: [u8; Config::FRAME]) -> Run
     requires { outbox ≡ replicate frame_size 0 }
     ensures { machine_of result ≡ new_machine }
 {
-    let program = Program::new();
     Run {
         outbox,
         kept: [0u8; Config::KEPT],
         signatures: [0u8; Config::SIGNATURES],
-        program,
+        program: Program::new(),
     }
 }
 
@@ -38,37 +37,39 @@ pub fn begin(outbox: [u8; Config::FRAME]) -> Run
 pub fn feed<R: Print>(rt: &R, run: Run, byte: u8) -> io::Result<Run>
     ensures { IfOk result (λ r. machine_of r ≡ (byte_turn (machine_of run) byte).machine_after) }
 {
-    let mut outbox = run.outbox;
-    let mut kept = run.kept;
-    let mut signatures = run.signatures;
-    let program = run.program;
+    let Run {
+        mut outbox,
+        mut kept,
+        mut signatures,
+        program,
+    } = run;
     let mut out = [0u8; Program::PRINTED];
     let fed = program.feed(byte, &mut outbox, &mut kept, &mut signatures, &mut out);
     print(rt, &out, fed.written)?;
-    let program = fed.program;
     Ok(Run {
         outbox,
         kept,
         signatures,
-        program,
+        program: fed.program,
     })
 }
 
 // The end of the input. An error is that of printing.
 pub fn end<R: Print>(rt: &R, run: Run) -> io::Result<()> {
-    let mut outbox = run.outbox;
-    let mut kept = run.kept;
-    let mut signatures = run.signatures;
-    let program = run.program;
+    let Run {
+        mut outbox,
+        mut kept,
+        mut signatures,
+        program,
+    } = run;
     let mut out = [0u8; Program::PRINTED];
     let fed = program.end(&mut outbox, &mut kept, &mut signatures, &mut out);
     print(rt, &out, fed.written)
 }
 
 fn print<R: Print>(rt: &R, out: &[u8; Program::PRINTED], written: usize) -> io::Result<()> {
-    let all: &[u8] = out;
-    if all.len() < written {
-        return Ok(());
+    match out.get(..written) {
+        Some(printed) => rt.write_all(printed),
+        None => Ok(()),
     }
-    rt.write_all(&all[..written])
 }

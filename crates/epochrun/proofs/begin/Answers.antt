@@ -2,4 +2,4 @@
 use Rattle.epochrun.proofs.begin.Goals as goal
 
 pub returns : goal.returns
-returns c = rw (c.new-program.ensures, c.requires)
+returns c = rw (c.new.ensures, c.requires)

@@ -1,5 +1,5 @@
 -- `Program::first_turn` meets its contract: a node is made and the run goes on (`first_goes`), or no configuration is printed, as the search finds.
-use Rattle.std.proofs.Common.{ℕ, sym, ap, ◌∙◌, take}
+use Rattle.std.proofs.Common.{sym, ap, ◌∙◌}
 use Rattle.node.specs.Calls.{fresh_of}
 use Rattle.epochline.specs.Lines.{config_in}
 use Rattle.epochline.specs.Machine.{machine}
@@ -9,6 +9,6 @@ use Rattle.epochline.proofs.Program.first_turn.Goals as goal
 pub returns-then-is_done : goal.returns-then-is_done
 returns-then-is_done c outbox kept signatures =
     let p = c.args.self in
-    let made = c.fresh-made.ensures ∙ ap fresh_of (c.config_in.ensures ∙ ap (λ (n : ℕ). config_in (take n p.line)) c.line_end-end.ensures) in
+    let made = c.fresh-made.ensures ∙ ap fresh_of (c.config_in.ensures ∙ ap config_in c.line_so_far.ensures) in
     leaves_silent c.on_line.ensures
     (first_goes (machine p outbox kept signatures) c.fresh-made.result made (sym c.is_done.ensures ∙ c.if-is_done.true))

@@ -7,6 +7,3 @@ use Rattle.epochline.proofs.printing.put.Given as goal
 abbrev pub invariant-loop-i : goal.invariant-loop-i
 invariant-loop-i l =
     (l.at ≤ l.i) × (l.i ≤ l.end) × (length l.out ≡ length l.initial.out) × (l.rest ≡ l.x / 10 ^ (l.at + length (decimal l.x) - l.i)) × (l.out ≡ over l.initial.out l.i (drop (l.i - l.at) (decimal l.x)))
-
-abbrev pub decreases-loop-i : goal.decreases-loop-i
-decreases-loop-i l = l.i

@@ -3,9 +3,9 @@ use Rattle.std.proofs.Common.{◌-◌, arith, get_or}
 use Rattle.epochline.proofs.Decimals.{digits_at, value_next, value_below}
 use Rattle.epochline.proofs.reading.value.Goals as goal
 
-pub loop-i-preserved : goal.loop-i-preserved
-loop-i-preserved c =
-    let l = c.loop-i in
+pub loop-b-preserved : goal.loop-b-preserved
+loop-b-preserved c =
+    let l = c.loop-b in
     let s = c.args.s.now in
-    let d = digits_at s l.i c.loop-i-test.true c.requires.1 in
-    (omega arith, value_next s l.i l.x c.loop-i-test.true l.invariant.1, value_below l.i l.x (get_or s l.i 0 - 48) l.invariant.2 (omega arith))
+    let d = digits_at s l.b-index c.loop-b-test.true c.requires.1 in
+    rw c.from.ensures (value_next s l.b-index l.x c.loop-b-test.true l.invariant.0, value_below l.b-index l.x (get_or s l.b-index 0 - 48) l.invariant.1 (omega arith))
