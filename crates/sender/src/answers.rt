@@ -18,13 +18,7 @@ impl Sender {
     pub fn good(self, waiting: &[u8]) -> bool
         ensures { result ≡ good_sender self waiting.now }
     {
-        if !self.good_fields() {
-            return false;
-        }
-        if waiting.len() < Config::WAITING {
-            return true;
-        }
-        self.good_slots(waiting)
+        self.good_fields() && (waiting.len() < Config::WAITING || self.good_slots(waiting))
     }
 
     // Whether every field is in its range.
