@@ -1,4 +1,4 @@
--- Laws of slots: the bytes of one, the body kept in it, the times in range, the lowest free one, and the earliest.
+-- Laws of slots: the bytes of one, the body kept in it, the lowest free one, and the earliest.
 use mathlib.Core.Bool.{Bool, true, false, cond, ◌&&◌, ◌||◌}
 use mathlib.Core.List.{List, [], ◌∷◌}
 use mathlib.Core.Path.{◌≡◌, refl, ap, ◌∙◌}
