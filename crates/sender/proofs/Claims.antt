@@ -9,6 +9,7 @@ use lib.Dec.{eqb}
 use lib.IntN.{pos}
 use lib.ListN.{length, replicate, get_or-replicate}
 use lib.Seq.{length-take-le}
+use Rattle.std.specs.declared.option.Option.{Option}
 use Rattle.config.specs.Limits.{kept_size, slots, waiting_size}
 use Rattle.config.specs.Bounds.{config_of, none_empty, sum, good_feed, good_config}
 use Rattle.config.specs.Codes.{number_of, is_done}
@@ -32,7 +33,7 @@ use Rattle.frame.specs.Check.{body_answer}
 use Rattle.report.specs.Newer.{newer}
 use Rattle.report.specs.Kept.{kept_bytes}
 use Rattle.report.specs.Whole.{report_of}
-use Rattle.report.proofs.Bodies.{good_short, none_handed}
+use Rattle.report.proofs.Bodies.{good_short}
 use Rattle.sender.specs.declared.Sender.{Sender}
 use Rattle.sender.specs.declared.Accepted.{Accepted}
 use Rattle.sender.specs.declared.Transmit.TheVariants.{Leave}
@@ -186,7 +187,7 @@ hands_out_what_it_removes w time commit g =
     cases (test (newer x.epoch x.round commit.epoch commit.round))
     (λ q. report_whole w.sender.config.n (handed_part out bytes) (r.so.whole_body q) ∙ ap (λ (a : Attested). a ∷ []) (r.so.handed q) ∙ sym (gone ∙ rw q))
     (λ q. ap report_of (r.so.held_back q) ∙ sym (gone ∙ rw q)))
-    (λ e. ap (λ (p : Part). report_of (handed_part p bytes)) ((refusal_changes_nothing w).timeout time commit e).2 ∙ none_handed bytes ∙ rw e)
+    (λ e. ap (λ (p : Option Part). report_of (handed_part p bytes)) ((refusal_changes_nothing w).timeout time commit e).2 ∙ rw e)
 
 pub timeouts_empty_the_queue : TimeoutsEmptyTheQueue
 timeouts_empty_the_queue = timeouts_empty

@@ -16,7 +16,7 @@ use Rattle.frame.specs.Check.{body_answer}
 use Rattle.frame.proofs.Checked.{checked_final}
 use Rattle.report.specs.Newer.{newer}
 use Rattle.report.specs.Whole.{final_length, report_of}
-use Rattle.report.proofs.Whole.{part_within, part_none}
+use Rattle.report.proofs.Whole.{part_within}
 use Rattle.report.proofs.Bodies.{attested_take, body_take, report_some}
 use Rattle.sender.specs.State.{slot_in, report_in}
 use Rattle.sender.specs.Calls.{releasing, handed_part}
@@ -45,4 +45,4 @@ module _ (waiting : List ℕ) (slot : ℕ) (commit : Commit) where
 
   pub handed_nothing : newer (report_in waiting slot).epoch (report_in waiting slot).round commit.epoch commit.round ≡ false → handed_part (releasing waiting commit slot) waiting ≡ []
   unfolding releasing
-  handed_nothing e = rw e (part_none waiting)
+  handed_nothing e = rw e

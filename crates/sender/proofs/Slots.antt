@@ -1,27 +1,25 @@
--- Laws of slots: the bytes of one, the body kept in it, the times in range, the lowest free one, and the earliest.
+-- Laws of slots: the bytes of one, the body kept in it, the lowest free one, and the earliest.
 use mathlib.Core.Bool.{Bool, true, false, cond, ◌&&◌, ◌||◌}
 use mathlib.Core.List.{List, [], ◌∷◌}
-use mathlib.Core.Path.{◌≡◌, ap, ◌∙◌}
+use mathlib.Core.Path.{◌≡◌, refl, ap, ◌∙◌}
 use Prim.Native.Nat.{ℕ, zero, suc, ◌+◌, ◌-◌, ◌*◌, ◌≤◌, ◌<◌}
 use native.Mathlib.Nat.{le_refl}
-use native.Mathlib.Numerals.{add-one}
 use native.Mathlib.Omega.{arith}
 use borrow.Author.Tests.{ne_eqb}
-use lib.Dec.{eqb, leb}
-use lib.ListN.{length, get_or, take, drop, length-drop}
-use lib.Seq.{length-take-le, drop-cons, get_or-take, get_or-drop}
+use lib.Dec.{eqb}
+use lib.ListN.{length, get_or, drop, length-drop}
+use lib.Seq.{length-take-le, get_or-take, get_or-drop}
 use borrow.Rule.Slice.PartMut.{mid_of, put_mid}
-use Rattle.config.specs.Limits.{members, last_time, longest_delay, kept_size, slots, waiting_size}
+use Rattle.config.specs.Limits.{members, kept_size, slots, waiting_size}
 use Rattle.config.specs.Answers.{Done}
 use Rattle.wire.specs.Overlay.{over}
 use Rattle.wire.proofs.Overlay.{lent_start}
-use Rattle.quorum.proofs.Counts.{every_suc}
 use Rattle.frame.specs.Check.{body_answer}
 use Rattle.frame.proofs.Checked.{checked_final, checked_fits}
 use Rattle.report.specs.Kept.{kept_bytes, keeping}
 use Rattle.report.proofs.Kept.{length_kept}
 use Rattle.sender.specs.declared.Sender.{Sender}
-use Rattle.sender.specs.State.{slot_in, taken, good_times}
+use Rattle.sender.specs.State.{slot_in, taken}
 use Rattle.sender.specs.Waiting.{sooner, earliest_below, free_in}
 
 -- ---- bytes
@@ -45,21 +43,18 @@ slot_keep waiting left body slot room h short e =
     let long = length_kept body short in
     lent_start waiting left (slot * kept_size) (length waiting - slot * kept_size) (kept_bytes body) e (omega arith) (omega arith)
 
--- ---- times
-
-pub good_times_suc : (times : List ℕ) (k : ℕ) → k < length times → good_times (take (suc k) times) ≡ good_times (take k times) && leb (get_or times k 0) (last_time + longest_delay)
-unfolding good_times
-good_times_suc times k h = every_suc (λ t. leb t (last_time + longest_delay)) 0 times k h
-
 -- ---- the lowest free slot
 
-pub free_taken : (l : List ℕ) (k : ℕ) → k < length l → get_or l k 0 ≡ 1 → free_in (drop k l) ≡ suc (free_in (drop (k + 1) l))
+pub free_first : (l : List ℕ) (i : ℕ) → i < length l → (get_or l i 0 ≡ 1 → ⊥) → ((k : ℕ) → k < i → get_or l k 0 ≡ 1) → free_in l ≡ i
 unfolding free_in
-free_taken l k h e = rw add-one (ap free_in (drop-cons l k 0 h) ∙ rw e)
+free_first [] i within free before = absurd (omega arith)
+free_first (t ∷ l) zero within free before = rw (ne_eqb t 1 free)
+free_first (t ∷ l) (suc i) within free before = rw (before 0 (omega arith)) (ap suc (free_first l i (omega arith) free (λ k h. before (suc k) (omega arith))))
 
-pub free_here : (l : List ℕ) (k : ℕ) → k < length l → (get_or l k 0 ≡ 1 → ⊥) → free_in (drop k l) ≡ 0
+pub free_none : (l : List ℕ) → ((k : ℕ) → k < length l → get_or l k 0 ≡ 1) → free_in l ≡ length l
 unfolding free_in
-free_here l k h e = ap free_in (drop-cons l k 0 h) ∙ rw (ne_eqb (get_or l k 0) 1 e)
+free_none [] all = refl
+free_none (t ∷ l) all = rw (all 0 (omega arith)) (ap suc (free_none l (λ k h. all (suc k) (omega arith))))
 
 pub free_within : (l : List ℕ) → free_in l ≤ length l
 unfolding free_in

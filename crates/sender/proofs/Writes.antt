@@ -14,7 +14,7 @@ use Rattle.config.proofs.Facts.{and-true}
 use Rattle.wire.specs.Overlay.{over}
 use Rattle.wire.proofs.Overlay.{take_over, over_drop, part_over}
 use Rattle.quorum.specs.Marks.{marked}
-use Rattle.quorum.proofs.Cases.{cases, either, split}
+use Rattle.quorum.proofs.Cases.{cases, either, split, test_false}
 use Rattle.quorum.proofs.Counts.{every_set, every_replicate}
 use Rattle.frame.specs.Range.{good_attested}
 use Rattle.frame.specs.Decode.{attested_in}
@@ -118,6 +118,11 @@ unfolding good_slots
 each_slots zero s bytes h = refl
 each_slots (suc m) s bytes h =
     ap₂ ◌&&◌ (each_slots m s bytes (λ j g. h j (omega arith))) (unless_of (taken s m) (good_attested s.config.n (report_in bytes m)) (h m (omega arith)))
+
+-- and they are not where one slot is neither free nor holds a body in range
+pub slot_bad : (m j : ℕ) (s : Sender) (bytes : List ℕ) → j < m → (not (taken s j) || good_attested s.config.n (report_in bytes j)) ≡ false → good_slots m s bytes ≡ false
+slot_bad m j s bytes h e =
+    test_false (good_slots m s bytes) (λ g. false≢true (sym e ∙ unless_of (taken s j) (good_attested s.config.n (report_in bytes j)) (slots_each m s bytes g j h)))
 
 -- they are in range still where slot k is written, if what it then holds is
 pub good_written : (s : Sender) (k flag time : ℕ) (b c : List ℕ) → ((j : ℕ) → (j ≡ k → ⊥) → report_in c j ≡ report_in b j) → ((j : ℕ) → j < slots → GoodAt s b j) → GoodAt (with_slot s k flag time) c k → (j : ℕ) → j < slots → GoodAt (with_slot s k flag time) c j

@@ -1,5 +1,7 @@
 -- Document 01, "Sender" (000, Algorithm 5) and "Codes": what each call answers, in the order of its codes, and what it does.
-use Rattle.std.specs.Prelude.{Bool, not, cond, ◌&&◌, ◌||◌, List, ℕ, ◌+◌, ◌*◌, eqb, ltb, ℤ, set}
+use Rattle.std.specs.Prelude.{Bool, not, cond, ◌&&◌, ◌||◌, List, [], ℕ, ◌+◌, ◌*◌, eqb, ltb, ℤ, set}
+use Rattle.std.specs.declared.option.Option.{Option}
+use Rattle.std.specs.declared.option.Option.TheVariants.{Some, None}
 use Rattle.config.specs.Limits.{kept_size, slots}
 use Rattle.config.specs.Bounds.{good_config, good_time, good_commit}
 use Rattle.config.specs.Codes.{is_done, making}
@@ -139,14 +141,14 @@ timeout_answer s time commit waiting =
     (cond (early s time waiting) answer.Ignored answer.Done)))
 
 -- no part of the slots
-abbrev pub nothing : Part
-nothing = record { start = 0; len = 0 }
+abbrev pub nothing : Option Part
+nothing = None
 
 -- "hands it out if newer than the commit": where in the slots' bytes the report lies
-unfoldable pub releasing : List ℕ → Commit → ℕ → Part
+unfoldable pub releasing : List ℕ → Commit → ℕ → Option Part
 releasing waiting commit slot =
     cond (newer (report_in waiting slot).epoch (report_in waiting slot).round commit.epoch commit.round)
-    (record { start = slot * kept_size; len = final_length (slot_in waiting slot) })
+    (Some (record { start = slot * kept_size; len = final_length (slot_in waiting slot) }))
     nothing
 
 abbrev pub refused_timeout : Answer → Sender → Released
@@ -164,5 +166,6 @@ timeout_of s time commit waiting =
     cond (is_done a) (released s time commit waiting) (refused_timeout a s)
 
 -- the report that is handed out, as a part of the slots' bytes; an empty part where none is
-abbrev pub handed_part : Part → List ℕ → List ℕ
-handed_part p waiting = part_of waiting p.start p.len
+abbrev pub handed_part : Option Part → List ℕ → List ℕ
+handed_part None waiting = []
+handed_part (Some p) waiting = part_of waiting p.start p.len

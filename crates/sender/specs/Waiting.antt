@@ -1,5 +1,7 @@
 -- Document 01, "Sender": which reports wait, which of them is the earliest, and where the next one goes.
-use Rattle.std.specs.Prelude.{Bool, cond, ◌&&◌, ◌||◌, List, [], ◌∷◌, ◌++◌, ℕ, zero, suc, ◌-◌, eqb, ltb}
+use Rattle.std.specs.Prelude.{◌≡◌, ◌<◌, Bool, cond, ◌&&◌, ◌||◌, List, [], ◌∷◌, ◌++◌, ℕ, zero, suc, ◌-◌, eqb, ltb}
+use Rattle.std.specs.declared.option.Option.{Option}
+use Rattle.std.specs.declared.option.Option.TheVariants.{Some, None}
 use Rattle.config.specs.Limits.{slots}
 use Rattle.frame.specs.Message.{Attested}
 use Rattle.report.specs.Newer.{newer}
@@ -41,6 +43,11 @@ earliest s bytes = earliest_below slots s bytes
 unfoldable pub free_in : List ℕ → ℕ
 free_in [] = 0
 free_in (t ∷ l) = cond (eqb t 1) (suc (free_in l)) 0
+
+-- what a function answers that looks for a slot of this number: none where it is the number of slots
+abbrev pub IsSlot : Option ℕ → ℕ → Type 0
+IsSlot None k = k ≡ slots
+IsSlot (Some slot) k = (slot ≡ k) × (slot < slots)
 
 -- "DONE sets T_transmit to the earliest time less now, at least 0, or stops it." A difference of numbers is 0 where the first is the smaller.
 unfoldable pub transmit_at : Sender → List ℕ → ℕ → Transmit

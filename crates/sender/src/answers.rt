@@ -18,13 +18,7 @@ impl Sender {
     pub fn good(self, waiting: &[u8]) -> bool
         ensures { result ≡ good_sender self waiting.now }
     {
-        if !self.good_fields() {
-            return false;
-        }
-        if waiting.len() < Config::WAITING {
-            return true;
-        }
-        self.good_slots(waiting)
+        self.good_fields() && (waiting.len() < Config::WAITING || self.good_slots(waiting))
     }
 
     // Whether every field is in its range.
@@ -35,11 +29,10 @@ impl Sender {
         let config = self.config;
         let accepted = self.accepted;
         let taken = self.taken;
-        let times = self.times;
         config.good()
             & config::paired(accepted.epoch, accepted.round)
             & quorum::flags(&taken)
-            & good_times(times)
+            & good_times(self.times)
     }
 
     // Whether each slot is free or holds a body in range.
@@ -48,15 +41,13 @@ impl Sender {
         requires { (self.config.n ≤ members) × (waiting_size ≤ length waiting.now) }
         ensures { result ≡ good_slots slots self waiting.now }
     {
-        let config = self.config;
-        let taken = self.taken;
-        let mut good = true;
-        let mut k: usize = 0;
-        while k < Config::SLOTS {
-            good = good & good_slot(taken[k], waiting, k, config.n);
-            k += 1;
+        let n = self.config.n;
+        for (slot, flag) in self.taken.iter().enumerate() {
+            if !good_slot(*flag, waiting, slot, n) {
+                return false;
+            }
         }
-        good
+        true
     }
 
     // 2, 3, 8 and 9 of the body, then what comes after those.
@@ -144,8 +135,7 @@ impl Sender {
         requires { good_config self.config ≡ true }
         ensures { result ≡ after_similar self place }
     {
-        let taken = self.taken;
-        if self.waits(place) & (queueing::free_in(taken) == Config::SLOTS) {
+        if self.waits(place) & queueing::free_in(self.taken).is_none() {
             return Answer::Queue;
         }
         Answer::Done
@@ -177,11 +167,8 @@ impl Sender {
         requires { waiting_size ≤ length waiting.now }
         ensures { result ≡ early self time waiting.now }
     {
-        let slot = self.earliest(waiting);
-        if slot == Config::SLOTS {
-            return true;
-        }
-        time < self.times[slot]
+        self.earliest(waiting)
+            .is_none_or(|slot| time < self.times[slot])
     }
 }
 
@@ -191,24 +178,16 @@ fn good_slot(flag: u8, waiting: &[u8], slot: usize, n: u8) -> bool
     requires { (n ≤ members) × (waiting_size ≤ length waiting.now) × (slot < slots) }
     ensures { result ≡ not (eqb flag 1) || good_attested n (report_in waiting.now slot) }
 {
-    if flag != 1 {
-        return true;
-    }
-    report::good_kept(queueing::slot_in(waiting, slot), n)
+    flag != 1 || report::good_kept(queueing::slot_in(waiting, slot), n)
 }
 
 // Whether every slot's time is in range.
-#[tactic(auto, unfolding(crate::specs::State::good_times))]
 fn good_times(times: [u64; Config::SLOTS]) -> bool
     ensures { result ≡ good_times times }
 {
-    let mut good = true;
-    let mut k: usize = 0;
-    while k < Config::SLOTS {
-        good = good & (times[k] <= Config::LAST_TIME + Config::LONGEST_DELAY);
-        k += 1;
-    }
-    good
+    times
+        .iter()
+        .all(|time| *time <= Config::LAST_TIME + Config::LONGEST_DELAY)
 }
 
 // Whether time and commit are in range.

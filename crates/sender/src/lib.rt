@@ -9,6 +9,7 @@ ghost use Rattle.std.specs.Prelude.{◌≡◌, ◌≤◌, ◌<◌, length};
 ghost use Rattle.config.specs.Limits.{slots, waiting_size};
 ghost use Rattle.frame.specs.Decode.{attested_in};
 ghost use Rattle.sender.specs.Calls.{made_of, accepting, accepting_bytes, sent, transmitted, transmit_of, releasing, released, timeout_of, handed_part};
+ghost use Rattle.sender.specs.Waiting.{earliest};
 ghost use Rattle.sender.specs.Ready.{Passed, Due};
 
 use config::{Answer, Commit, Config};
@@ -64,13 +65,13 @@ pub struct Part {
     pub len: usize,
 }
 
-// What a timeout came to, and where the report lies that is handed out; `len` is 0 where none is.
+// What a timeout came to, and where the report lies that is handed out, where one is.
 #[derive(Clone, Copy)]
 pub struct Released {
     pub answer: Answer,
     pub sender: Sender,
     pub transmit: Transmit,
-    pub handed: Part,
+    pub handed: Option<Part>,
 }
 
 impl Sender {
@@ -146,18 +147,20 @@ impl Sender {
             round: frame::round_of(body),
         };
         let next = Sender { accepted, ..self };
-        if self.waits(place) {
-            let taken = self.taken;
-            let slot = queueing::free_in(taken);
-            let start = slot * Config::KEPT;
-            report::keep(&mut waiting[start..], body);
-            return next.with_slot(
-                slot,
-                1,
-                time + staging::delay_of(config, staging::stage_for(config, place)),
-            );
+        if !self.waits(place) {
+            return next;
         }
-        next
+        // the checks leave a free slot
+        let Some(slot) = queueing::free_in(self.taken) else {
+            return next;
+        };
+        let start = slot * Config::KEPT;
+        report::keep(&mut waiting[start..], body);
+        next.with_slot(
+            slot,
+            1,
+            time + staging::delay_of(config, staging::stage_for(config, place)),
+        )
     }
 
     // T_transmit fires.
@@ -166,24 +169,25 @@ impl Sender {
         ensures { result ≡ timeout_of self time commit waiting.now }
     {
         let answer = self.timeout_answer(time, commit, waiting);
-        if answer.is_done() {
-            return self.released(time, commit, waiting);
+        if answer.is_done()
+            && let Some(slot) = self.earliest(waiting)
+        {
+            return self.released(slot, time, commit, waiting);
         }
         Released {
             answer,
             sender: self,
             transmit: Transmit::Leave,
-            handed: Part { start: 0, len: 0 },
+            handed: None,
         }
     }
 
-    // The earliest report leaves.
+    // The report in this slot, the earliest, leaves.
     #[tactic(auto, unfolding(crate::specs::Calls::released))]
-    fn released(self, time: u64, commit: Commit, waiting: &[u8]) -> Released
-        requires { Due self waiting.now }
+    fn released(self, slot: usize, time: u64, commit: Commit, waiting: &[u8]) -> Released
+        requires { Due self waiting.now × (slot ≡ earliest self waiting.now) }
         ensures { result ≡ released self time commit waiting.now }
     {
-        let slot = self.earliest(waiting);
         let sender = self.with_slot(slot, 0, 0);
         Released {
             answer: Answer::Done,
@@ -194,9 +198,9 @@ impl Sender {
     }
 }
 
-// Where the report of a slot lies, if it is newer than the commit; else no part.
+// Where the report of a slot lies, if it is newer than the commit.
 #[tactic(auto, using(crate::proofs::Slots::length_slot, crate::proofs::Slots::slot_at), unfolding(frame::specs::Table::shape_of, frame::specs::Table::table, crate::specs::Calls::releasing))]
-fn releasing(waiting: &[u8], commit: Commit, slot: usize) -> Part
+fn releasing(waiting: &[u8], commit: Commit, slot: usize) -> Option<Part>
     requires { (waiting_size ≤ length waiting.now) × (slot < slots) }
     ensures { result ≡ releasing waiting.now commit slot }
 {
@@ -207,17 +211,20 @@ fn releasing(waiting: &[u8], commit: Commit, slot: usize) -> Part
         commit.epoch,
         commit.round,
     ) {
-        return Part {
+        return Some(Part {
             start: slot * Config::KEPT,
             len: frame::final_length(bytes),
-        };
+        });
     }
-    Part { start: 0, len: 0 }
+    None
 }
 
 // The report that a timeout hands out, as a part of the slots' bytes; an empty part where none is.
-pub fn handed_part(handed: Part, waiting: &[u8]) -> &[u8]
+pub fn handed_part(handed: Option<Part>, waiting: &[u8]) -> &[u8]
     ensures { result.now ≡ handed_part handed waiting.now }
 {
-    report::part_of(waiting, handed.start, handed.len)
+    match handed {
+        Some(part) => report::part_of(waiting, part.start, part.len),
+        None => &[],
+    }
 }

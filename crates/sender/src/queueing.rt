@@ -1,8 +1,8 @@
 // The slots of the waiting reports: which is free, and which is due first.
-ghost use Rattle.std.specs.Prelude.{◌≡◌, cond, ◌&&◌, ◌||◌, ◌≤◌, ◌<◌, eqb, length};
+ghost use Rattle.std.specs.Prelude.{◌≡◌, cond, ◌&&◌, ◌||◌, ◌≤◌, ◌<◌, eqb, length, IfSome, unwrap_or};
 ghost use Rattle.config.specs.Limits.{slots, waiting_size};
-ghost use Rattle.sender.specs.State.{slot_in, taken};
-ghost use Rattle.sender.specs.Waiting.{sooner, earliest, free_in, transmit_at};
+ghost use Rattle.sender.specs.State.{slot_in, report_in, time_of, taken};
+ghost use Rattle.sender.specs.Waiting.{sooner, earliest, free_in, IsSlot, transmit_at};
 ghost use Rattle.sender.specs.Calls.{with_slot};
 
 use crate::{Sender, Transmit};
@@ -31,64 +31,57 @@ impl Sender {
         requires { waiting_size ≤ length waiting.now }
         ensures { result ≡ transmit_at self waiting.now time }
     {
-        let slot = self.earliest(waiting);
-        if slot == Config::SLOTS {
-            return Transmit::Stop;
+        match self.earliest(waiting) {
+            Some(slot) => Transmit::Set(self.times[slot].saturating_sub(time)),
+            None => Transmit::Stop,
         }
-        Transmit::Set(config::between(time, self.times[slot]))
     }
 
-    // The slot of the earliest report; the number of slots where none waits.
-    #[tactic(auto, using(crate::proofs::Slots::earliest_most), unfolding(crate::specs::Waiting::earliest_below))]
-    pub(crate) fn earliest(self, waiting: &[u8]) -> usize
+    // The slot of the earliest report, where one waits.
+    #[tactic(auto, unfolding(crate::specs::Waiting::earliest_below))]
+    pub(crate) fn earliest(self, waiting: &[u8]) -> Option<usize>
         requires { waiting_size ≤ length waiting.now }
-        ensures { (result ≡ earliest self waiting.now) × (result ≤ slots) }
+        ensures { IsSlot result (earliest self waiting.now) }
     {
-        let taken = self.taken;
-        let mut best: usize = Config::SLOTS;
-        let mut k: usize = 0;
-        while k < Config::SLOTS {
-            best = self.better(waiting, taken[k], k, best);
-            k += 1;
+        let mut best: Option<usize> = None;
+        for (slot, flag) in self.taken.iter().enumerate() {
+            best = self.better(waiting, *flag, slot, best);
         }
         best
     }
 
-    // Slot k, where a report waits in it that is sooner than the best one so far; else that one.
-    fn better(self, waiting: &[u8], flag: u8, k: usize, best: usize) -> usize
-        requires { (waiting_size ≤ length waiting.now) × (k < slots) × (best ≤ slots) }
-        ensures { result ≡ cond (eqb flag 1 && (eqb best slots || sooner self waiting.now k best)) k best }
+    // This slot, where a report waits in it that is sooner than the best one so far; else that one.
+    fn better(self, waiting: &[u8], flag: u8, slot: usize, best: Option<usize>) -> Option<usize>
+        requires { (waiting_size ≤ length waiting.now) × (slot < slots) × IfSome best (λ other. other < slots) }
+        ensures { IsSlot result (cond (eqb flag 1 && (eqb (unwrap_or best slots) slots || sooner self waiting.now slot (unwrap_or best slots))) slot (unwrap_or best slots)) }
     {
-        if flag != 1 {
-            return best;
+        if flag == 1 && best.is_none_or(|other| self.sooner(waiting, slot, other)) {
+            Some(slot)
+        } else {
+            best
         }
-        if best == Config::SLOTS {
-            return k;
-        }
-        if self.sooner(waiting, k, best) {
-            return k;
-        }
-        best
     }
 
     // Whether the report in slot a is due before the one in slot b: by time, then epoch, then round.
-    #[tactic(auto, using(crate::proofs::Slots::length_slot))]
     fn sooner(self, waiting: &[u8], a: usize, b: usize) -> bool
         requires { (waiting_size ≤ length waiting.now) × (a < slots) × (b < slots) }
         ensures { result ≡ sooner self waiting.now a b }
     {
-        let first = self.times[a];
-        let second = self.times[b];
-        let one = slot_in(waiting, a);
-        let other = slot_in(waiting, b);
-        (first < second)
-            | ((first == second)
-                & report::newer(
-                    frame::epoch_of(other),
-                    frame::round_of(other),
-                    frame::epoch_of(one),
-                    frame::round_of(one),
-                ))
+        self.due(waiting, a) < self.due(waiting, b)
+    }
+
+    // By what the reports in the slots are ordered: time, epoch and round.
+    #[tactic(auto, using(crate::proofs::Slots::length_slot))]
+    fn due(self, waiting: &[u8], slot: usize) -> (u64, u32, u8)
+        requires { (waiting_size ≤ length waiting.now) × (slot < slots) }
+        ensures { result ≡ (time_of self slot, (report_in waiting.now slot).epoch, (report_in waiting.now slot).round) }
+    {
+        let bytes = slot_in(waiting, slot);
+        (
+            self.times[slot],
+            frame::epoch_of(bytes),
+            frame::round_of(bytes),
+        )
     }
 }
 
@@ -103,17 +96,9 @@ pub(crate) fn slot_in(waiting: &[u8], slot: usize) -> &[u8]
     &waiting[start..end]
 }
 
-// The lowest free slot; the number of slots where all are taken.
-#[tactic(auto, unfolding(crate::specs::Waiting::free_in))]
-pub(crate) fn free_in(taken: [u8; Config::SLOTS]) -> usize
-    ensures { (result ≡ free_in taken) × (result ≤ slots) }
+// The lowest free slot, where one is free.
+pub(crate) fn free_in(taken: [u8; Config::SLOTS]) -> Option<usize>
+    ensures { IsSlot result (free_in taken) }
 {
-    let mut slot: usize = 0;
-    while slot < Config::SLOTS {
-        if taken[slot] != 1 {
-            return slot;
-        }
-        slot += 1;
-    }
-    slot
+    taken.iter().position(|flag| *flag != 1)
 }

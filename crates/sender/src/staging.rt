@@ -50,15 +50,13 @@ pub(crate) fn stage_for(config: Config, place: u8) -> usize
     let schedule = config.schedule;
     let stages = config.stages as usize;
     let mut rest = place;
-    let mut k: usize = 0;
-    while k < stages {
+    for k in 0..stages {
         if rest <= schedule[k] {
             return k + 1;
         }
         rest -= schedule[k];
-        k += 1;
     }
-    k + 1
+    stages + 1
 }
 
 // How long a stage waits.

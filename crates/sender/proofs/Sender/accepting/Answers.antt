@@ -26,8 +26,8 @@ pub keep-requires : goal.keep-requires
 keep-requires c =
     let few = (good_facts c.args.self.config c.requires.config).feed.members.most in
     let w = c.args.waiting.now in
-    let slot = c.free_in-slot.result in
-    let free : slot < slots = rw c.free_in-slot.ensures.0 (c.requires.free (sym c.if-waits.ensures)) in
+    let slot = c.in-Some.slot in
+    let free : slot < slots = c.in-Some.ensures.1 in
     let long = mid_len (slot * kept_size) (length w) w (le_refl (length w)) in
     (body_fits c.args.self.config.n c.args.body.now few c.requires.body_good, omega (arith, c.requires.room))
 
@@ -37,25 +37,24 @@ stage_for-requires c = (good_facts c.args.self.config c.requires.config).feed.sc
 pub delay_of-requires : goal.delay_of-requires
 delay_of-requires c =
     let feed = (good_facts c.args.self.config c.requires.config).feed in
-    let within = leb-true (stage_for c.args.self.config c.args.place) c.args.self.config.stages (sym c.if-waits.ensures) in
+    let within = leb-true (stage_for c.args.self.config c.args.place) c.args.self.config.stages (sym c.if-not-waits.ensures) in
     (omega (arith, c.stage_for.ensures.0, feed.schedule.most), feed.stage)
 
 pub overflow_add-time : goal.overflow_add-time
 overflow_add-time c =
     let feed = (good_facts c.args.self.config c.requires.config).feed in
-    let within = leb-true (stage_for c.args.self.config c.args.place) c.args.self.config.stages (sym c.if-waits.ensures) in
+    let within = leb-true (stage_for c.args.self.config c.args.place) c.args.self.config.stages (sym c.if-not-waits.ensures) in
     let most : c.stage_for.result ≤ most_stages = omega (arith, c.stage_for.ensures.0, feed.schedule.most) in
     omega (arith, c.delay_of.ensures, c.requires.time_good, mul-le-mul most feed.stage)
 
-pub returns-then-waits : goal.returns-then-waits
+pub returns : goal.returns
 unfolding accepting accepting_bytes
-returns-then-waits c =
+returns c =
     let few = (good_facts c.args.self.config c.requires.config).feed.members.most in
     let fits = body_fits c.args.self.config.n c.args.body.now few c.requires.body_good in
-    let held = sym c.if-waits.ensures in
-    let slot = c.free_in-slot.result in
-    let free : slot < slots = rw c.free_in-slot.ensures.0 (c.requires.free held) in
+    let held = sym c.if-not-waits.ensures in
+    let lowest = c.in-Some.ensures.0 in
     let median : to_z w64 (of_z w64 c.median.result) ≡ c.median.result = to_z-of_z {w = w64} (record { sfits = c.median.type_inv }) in (
-      rw (c.with_slot.ensures, c.delay_of.ensures, c.stage_for.ensures.0, c.free_in-slot.ensures.0, held, c.round_of.ensures, c.epoch_of.ensures, median, c.median.ensures, c.stride.ensures),
-      slot_keep c.args.waiting.now _ c.args.body.now slot c.requires.room free fits c.keep.ensures ∙ rw (c.free_in-slot.ensures.0, held),
+      rw (c.with_slot.ensures, c.delay_of.ensures, c.stage_for.ensures.0, lowest, held, c.round_of.ensures, c.epoch_of.ensures, median, c.median.ensures, c.stride.ensures),
+      slot_keep c.args.waiting.now _ c.args.body.now c.in-Some.slot c.requires.room c.in-Some.ensures.1 fits c.keep.ensures ∙ rw (lowest, held),
     )

@@ -1,16 +1,23 @@
 -- `Sender::earliest` meets its contract: `better` is the turn of its loop.
-use Rattle.std.proofs.Common.{◌≡◌, ◌∙◌, le_refl, add-one, arith}
+use Rattle.std.proofs.Common.{ℕ, ◌≡◌, sym, add-one, arith}
+use Rattle.std.specs.Prelude.{unwrap_or}
+use Rattle.std.specs.declared.option.Option.{Option}
+use Rattle.std.specs.declared.option.Option.TheVariants.{Some, None}
 use Rattle.config.specs.Limits.{slots}
-use Rattle.sender.specs.Waiting.{earliest_below}
-use Rattle.sender.proofs.Slots.{earliest_most}
+use Rattle.sender.specs.Waiting.{earliest_below, IsSlot}
 use Rattle.sender.proofs.Sender.earliest.Goals as goal
 
-pub loop-k-preserved : goal.loop-k-preserved
+number : (found : Option ℕ) (k : ℕ) → IsSlot found k → unwrap_or found slots ≡ k
+number None k h = sym h
+number (Some slot) k h = h.0
+
+pub loop-slot-preserved : goal.loop-slot-preserved
 unfolding earliest_below
-loop-k-preserved c = (omega arith, c.better-best.ensures ∙ rw (add-one, c.loop-k.invariant.1))
+loop-slot-preserved c =
+    let before = number c.loop-slot.best (earliest_below c.loop-slot.slot c.args.self c.args.waiting.now) c.loop-slot.invariant in
+    rw add-one (rw before at c.better-best.ensures)
 
 pub returns : goal.returns
 returns c =
-    let e : c.loop-k.k ≡ slots = omega arith in
-    let found = rw e at c.loop-k.invariant.1 in
-    (found, rw found (earliest_most slots c.args.self c.args.waiting.now (le_refl slots)))
+    let e : c.loop-slot.slot ≡ slots = omega arith in
+    rw e at c.loop-slot.invariant

@@ -1,11 +1,6 @@
--- `Sender::earliest` meets its contract: the loop has the earliest of the first k slots, and `better` is its turn.
-use Rattle.std.proofs.Common.{◌≡◌, ◌-◌, ◌≤◌}
-use Rattle.config.specs.Limits.{slots}
-use Rattle.sender.specs.Waiting.{earliest_below}
+-- `Sender::earliest` meets its contract: the loop has the earliest of the first slots, and `better` is its turn.
+use Rattle.sender.specs.Waiting.{earliest_below, IsSlot}
 use Rattle.sender.proofs.Sender.earliest.Given as goal
 
-abbrev pub invariant-loop-k : goal.invariant-loop-k
-invariant-loop-k l = (l.k ≤ slots) × (l.best ≡ earliest_below l.k l.self l.waiting)
-
-abbrev pub decreases-loop-k : goal.decreases-loop-k
-decreases-loop-k l = slots - l.k
+abbrev pub invariant-loop-slot : goal.invariant-loop-slot
+invariant-loop-slot l = IsSlot l.best (earliest_below l.slot l.fn.self l.waiting)

@@ -6,4 +6,4 @@ use Rattle.sender.proofs.Sender.good.Goals as goal
 
 pub good_slots-requires : goal.good_slots-requires
 good_slots-requires c =
-    ((good_facts _ (fields_facts _ (sym c.if-not-good_fields.ensures)).0).feed.members.most, c.if-waiting-lt-WAITING.false)
+    ((good_facts _ (fields_facts _ (sym c.if-good_fields.ensures)).0).feed.members.most, c.if-waiting-lt-WAITING.false)

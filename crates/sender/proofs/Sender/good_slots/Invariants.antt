@@ -1,11 +1,7 @@
--- `Sender::good_slots` meets its contract: the loop has tested the first k slots.
-use Rattle.std.proofs.Common.{◌≡◌, ◌-◌, ◌≤◌}
-use Rattle.config.specs.Limits.{slots}
+-- `Sender::good_slots` meets its contract: the slots passed are good.
+use Rattle.std.proofs.Common.{◌≡◌, true}
 use Rattle.sender.specs.State.{good_slots}
 use Rattle.sender.proofs.Sender.good_slots.Given as goal
 
-abbrev pub invariant-loop-k : goal.invariant-loop-k
-invariant-loop-k l = (l.k ≤ slots) × (l.good ≡ good_slots l.k l.fn.self l.waiting)
-
-abbrev pub decreases-loop-k : goal.decreases-loop-k
-decreases-loop-k l = slots - l.k
+abbrev pub invariant-loop-slot : goal.invariant-loop-slot
+invariant-loop-slot l = good_slots l.slot l.fn.self l.waiting ≡ true
