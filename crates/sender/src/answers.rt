@@ -10,7 +10,8 @@ ghost use Rattle.sender.specs.State.{good_times, good_fields, good_slots, good_s
 ghost use Rattle.sender.specs.Calls.{similar, old, after_similar, after_config, after_body, transmit_answer, early, timeout_answer};
 
 use crate::{Sender, queueing, staging};
-use config::{Answer, Commit, Config};
+use config::{Answer, Commit, Config, Refusal};
+use frame::Kind;
 
 impl Sender {
     // Whether every field is in its range, and so is every body that waits in slots of full size.
@@ -63,17 +64,14 @@ impl Sender {
         ensures { result ≡ transmit_answer self body.now time commit permutation.now waiting.now }
     {
         if !self.good(waiting) {
-            return Answer::State;
+            return Err(Refusal::State);
         }
         if waiting.len() < Config::WAITING {
-            return Answer::Room;
+            return Err(Refusal::Room);
         }
         let config = self.config;
-        let answer = frame::check_final(body, config.n);
-        if answer.is_done() {
-            return self.after_body(body, time, commit, permutation);
-        }
-        answer
+        frame::check_final(body, config.n)?;
+        self.after_body(body, time, commit, permutation)
     }
 
     // 9 of the time and the commit, 12, then what comes after those.
@@ -83,11 +81,11 @@ impl Sender {
         ensures { result ≡ after_body self body.now time commit permutation.now }
     {
         if !in_range(time, commit) {
-            return Answer::Range;
+            return Err(Refusal::Range);
         }
         let config = self.config;
         if !staging::permutes(config.n, permutation) {
-            return Answer::Config;
+            return Err(Refusal::Config);
         }
         self.after_config(body, commit, self.place_in(permutation))
     }
@@ -99,10 +97,10 @@ impl Sender {
         ensures { result ≡ after_config self commit (attested_in body.now) place }
     {
         if self.old(body, commit) {
-            return Answer::Old;
+            return Err(Refusal::Old);
         }
-        if self.similar(commit, report::median(body, frame::stride(6))) {
-            return Answer::Similar;
+        if self.similar(commit, report::median(body, frame::stride(Kind::Final))) {
+            return Err(Refusal::Similar);
         }
         self.after_similar(place)
     }
@@ -136,9 +134,9 @@ impl Sender {
         ensures { result ≡ after_similar self place }
     {
         if self.waits(place) & queueing::free_in(self.taken).is_none() {
-            return Answer::Queue;
+            return Err(Refusal::Queue);
         }
-        Answer::Done
+        Ok(())
     }
 
     // 2, 3, 9, 1.
@@ -147,18 +145,18 @@ impl Sender {
         ensures { result ≡ timeout_answer self time commit waiting.now }
     {
         if !self.good(waiting) {
-            return Answer::State;
+            return Err(Refusal::State);
         }
         if waiting.len() < Config::WAITING {
-            return Answer::Room;
+            return Err(Refusal::Room);
         }
         if !in_range(time, commit) {
-            return Answer::Range;
+            return Err(Refusal::Range);
         }
         if self.early(time, waiting) {
-            return Answer::Ignored;
+            return Err(Refusal::Ignored);
         }
-        Answer::Done
+        Ok(())
     }
 
     // Whether nothing is due: no report waits, or the earliest one's time has not come.

@@ -13,6 +13,7 @@ ghost use Rattle.sender.specs.Waiting.{earliest};
 ghost use Rattle.sender.specs.Ready.{Passed, Due};
 
 use config::{Answer, Commit, Config};
+use frame::Kind;
 
 // The report that a node accepted last; epoch and round are both 0 before the first one.
 #[repr(C)]
@@ -86,7 +87,7 @@ impl Sender {
             round: 0,
         };
         Made {
-            answer: Answer::of_making(config.good()),
+            answer: config::of_making(config.good()),
             sender: Sender {
                 config,
                 accepted,
@@ -109,7 +110,7 @@ impl Sender {
         ensures { sent result waiting.new ≡ transmit_of self body.now time commit permutation.now waiting.old }
     {
         let answer = self.transmit_answer(body, time, commit, permutation, &waiting[..]);
-        if answer.is_done() {
+        if answer.is_ok() {
             let place = self.place_in(permutation);
             return self.transmitted(body, time, place, waiting);
         }
@@ -128,7 +129,7 @@ impl Sender {
     {
         let sender = self.accepting(body, time, place, waiting);
         Queued {
-            answer: Answer::Done,
+            answer: Ok(()),
             sender,
             transmit: sender.transmit_at(&waiting[..], time),
         }
@@ -142,7 +143,7 @@ impl Sender {
     {
         let config = self.config;
         let accepted = Accepted {
-            median: report::median(body, frame::stride(6)),
+            median: report::median(body, frame::stride(Kind::Final)),
             epoch: frame::epoch_of(body),
             round: frame::round_of(body),
         };
@@ -169,7 +170,7 @@ impl Sender {
         ensures { result ≡ timeout_of self time commit waiting.now }
     {
         let answer = self.timeout_answer(time, commit, waiting);
-        if answer.is_done()
+        if answer.is_ok()
             && let Some(slot) = self.earliest(waiting)
         {
             return self.released(slot, time, commit, waiting);
@@ -190,7 +191,7 @@ impl Sender {
     {
         let sender = self.with_slot(slot, 0, 0);
         Released {
-            answer: Answer::Done,
+            answer: Ok(()),
             sender,
             transmit: sender.transmit_at(waiting, time),
             handed: releasing(waiting, commit, slot),
