@@ -1,13 +1,13 @@
 // The calls of a node.
 ghost use Rattle.std.specs.Prelude.{◌≡◌};
 ghost use Rattle.node.specs.Calls.{out};
-ghost use Rattle.host.specs.Numbers.{fired_of, timer_number, flag_of};
+ghost use Rattle.host.specs.Numbers.{timer_number, flag_of};
 ghost use Rattle.host.specs.Lent.{lent_node, after_call, after_made};
 ghost use Rattle.host.specs.Calls.{restore_at, start_at, deliver_at, timer_call, timer_at};
 
 use crate::{LentNode, NodeOutcome};
 use config::{Saved, Timer};
-use node::{Fired, Node};
+use node::{Arrival, Fired, NoTimer, Node};
 
 // A node that has heard and sent nothing.
 #[unsafe(no_mangle)]
@@ -123,18 +123,15 @@ fn deliver_to(
     ensures { lent_node result outbox.new kept.new signatures.new ≡ deliver_at lent link time bits frame.now outbox.old at kept.old signatures.old }
 {
     let node = lent.node;
-    lent.called(node.deliver(
+    let arrival = Arrival {
         link,
         time,
-        lent.observation,
-        lent.commit,
+        observation: lent.observation,
+        commit: lent.commit,
         bits,
         frame,
-        outbox,
-        at,
-        kept,
-        signatures,
-    ))
+    };
+    lent.called(node.deliver(arrival, outbox, at, kept, signatures))
 }
 
 #[tactic(auto, unfolding(crate::specs::Calls::timer_at))]
@@ -166,21 +163,9 @@ fn timer_call(
 ) -> node::Outcome
     ensures { out result outbox.new kept.now signatures.new ≡ timer_call node timer time outbox.old at kept.now signatures.old }
 {
-    if 3 < timer {
-        return node.unarmed(time, &outbox[..], at, kept, &signatures[..]);
-    }
-    node.timer(fired_of(timer), time, outbox, at, kept, signatures)
-}
-
-// Which timer a number from 0 to 3 names.
-fn fired_of(timer: u8) -> Fired
-    ensures { result ≡ fired_of timer }
-{
-    match timer {
-        0 => Fired::Resend,
-        1 => Fired::Progress,
-        2 => Fired::Round,
-        _ => Fired::Grace,
+    match Fired::try_from(timer) {
+        Ok(fired) => node.timer(fired, time, outbox, at, kept, signatures),
+        Err(NoTimer) => node.unarmed(time, &outbox[..], at, kept, &signatures[..]),
     }
 }
 
@@ -191,22 +176,17 @@ impl LentNode {
     {
         let node = o.node;
         let handed = o.handed;
-        let answer = o.answer;
         let timers = o.timers;
-        let resend = timers.resend;
-        let progress = timers.progress;
-        let round = timers.round;
-        let grace = timers.grace;
         let outcome = NodeOutcome {
             written: o.written,
             start: handed.start,
             len: handed.len,
             held: flag_of(handed.held),
-            resend: timer_number(resend),
-            progress: timer_number(progress),
-            round: timer_number(round),
-            grace: timer_number(grace),
-            answer: answer.number(),
+            resend: timer_number(timers.resend),
+            progress: timer_number(timers.progress),
+            round: timer_number(timers.round),
+            grace: timer_number(timers.grace),
+            answer: config::number(o.answer),
         };
         LentNode {
             node,
@@ -219,7 +199,6 @@ impl LentNode {
     pub(crate) fn made(self, m: node::Made) -> LentNode
         ensures { result ≡ after_made self m }
     {
-        let answer = m.answer;
         let outcome = NodeOutcome {
             written: 0,
             start: 0,
@@ -229,9 +208,9 @@ impl LentNode {
             progress: 0,
             round: 0,
             grace: 0,
-            answer: answer.number(),
+            answer: config::number(m.answer),
         };
-        if answer.is_done() {
+        if m.answer.is_ok() {
             let node = m.node;
             return LentNode {
                 node,
@@ -246,7 +225,7 @@ impl LentNode {
 fn flag_of(b: bool) -> u8
     ensures { result ≡ flag_of b }
 {
-    if b { 1 } else { 0 }
+    u8::from(b)
 }
 
 fn timer_number(timer: Timer) -> u8
