@@ -16,7 +16,13 @@ pub fn read<R: Print>(rt: &R, case: &[u8]) -> io::Result<()> {
     if case.len() < FRAME {
         return Ok(());
     }
-    read_frame(rt, case[1], case[2], wire::read::<u64>(case, 3), &case[FRAME..])
+    read_frame(
+        rt,
+        case[1],
+        case[2],
+        wire::read::<u64>(case, 3),
+        &case[FRAME..],
+    )
 }
 
 #[tactic(auto, using(config::proofs::Facts::done_only, frame::proofs::Ranges::one_to, frame::proofs::Framed::checked_frame))]
