@@ -25,6 +25,7 @@ use Rattle.contract.specs.declared.Contract.{Contract}
 use Rattle.contract.specs.State.{place_of}
 use Rattle.contract.specs.Calls.{answer_of, refusal_of, withdraw_answer, earning_all, paying}
 use Rattle.contract.proofs.Facts.{ContractGood, terms_facts, contract_facts, withdraw_passed, place_within, submit_passed}
+use Rattle.contract.proofs.Bodies.{listed_each}
 use Rattle.contract.proofs.Fees.{listed_in, listed_count, fund_all}
 
 -- a ledger, and what it has become once so much was paid in and so much out
@@ -78,14 +79,6 @@ withdraw_moved c member long h =
     let k = place_within c.terms.n c.terms.f member t.members p.1 in
     moved_withdraw c.ledger (place_of member) g.deposits g.covers (omega arith)
 
--- the members of a body in range
-listed_each : (n : ℕ) (body : List ℕ) → CheckedFinal n body → (i : ℕ) → i < length (listed_in body) → OneTo n (get_or (listed_in body) i 0)
-listed_each n body f i k =
-    let long = listed_count body in
-    let e = get_or-map (λ (o : Observation). o.member) (observations_in (shape_of 6).entry body) i no_observation in
-    let o = f.list.each i (omega arith) in
-    record { least = rw e o.least; most = rw e o.most }
-
 -- what an accepted report leaves to the payment of its fees
 pub record Ready (c : Contract) (listed : List ℕ) (transmitter : ℕ) : Type 0 where
   pub good : ContractGood c
@@ -104,7 +97,7 @@ submit_ready c body transmitter time bits long h =
     record {
       good = g;
       few = omega arith;
-      each = listed_each c.terms.n body (checked_final c.terms.n body p.body_good);
+      each = listed_each c.terms.n body p.body_good;
       own = p.range.report.own;
       fund = omega (arith, p.range.report.fund);
     }

@@ -348,7 +348,7 @@ fn paid(terms: Terms, ledger: Ledger, body: &[u8], transmitter: u8) -> Ledger
 }
 
 // The ledger after each listed member has earned the observation fee. The turns alter one local: `Ledger::earn` would copy the ledger for each member.
-#[tactic(auto, using(report::proofs::Whole::report_head, crate::proofs::Bodies::whole_report, crate::proofs::Bodies::listed_entry, crate::proofs::Bodies::listed_member, crate::proofs::Fees::fees_next, crate::proofs::Fees::listed_count, crate::proofs::Fees::earn_next, crate::proofs::Fees::earn_end), unfolding(crate::specs::Calls::earning_all))]
+#[tactic(auto, using(report::proofs::Whole::report_head, crate::proofs::Bodies::whole_report, crate::proofs::Bodies::listed_entry, crate::proofs::Fees::listed_count, crate::proofs::Fees::earn_end))]
 fn paid_all(terms: Terms, ledger: Ledger, body: &[u8]) -> Ledger
     requires { CoversAll terms ledger body.now }
     ensures { result ≡ earning_all ledger (members_of (attested_in body.now).list) terms.observation_fee }
