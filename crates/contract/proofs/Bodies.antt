@@ -1,7 +1,7 @@
 -- What a FINAL body that passed LENGTH and RANGE holds for a contract: a whole report, of observations by its members.
 use mathlib.Core.List.{List}
 use mathlib.Core.Path.{◌≡◌}
-use Prim.Native.Nat.{ℕ, ◌≤◌, ◌<◌}
+use Prim.Native.Nat.{ℕ, ◌<◌}
 use native.Mathlib.Omega.{arith}
 use lib.ListN.{length, get_or, get_or-map}
 use Rattle.config.specs.Answers.{Done}

@@ -6,15 +6,13 @@ use Prim.Native.Nat.{ℕ, suc, ◌+◌, ◌*◌, ◌≤◌, ◌<◌}
 use native.Mathlib.Nat.{suc-mul}
 use native.Mathlib.Omega.{arith}
 use borrow.Author.Tests.{le-leb}
-use lib.ListN.{length, get_or, drop, length-set, get_or-map}
+use lib.ListN.{length, get_or, drop, length-set}
 use Rattle.config.specs.Limits.{members, most_deposits}
 use Rattle.config.specs.Codes.{is_done}
 use Rattle.config.proofs.Facts.{Own}
-use Rattle.frame.specs.Message.{Observation, no_observation}
 use Rattle.frame.specs.Table.{shape_of}
-use Rattle.frame.specs.Decode.{count_in, list_place, observation_at, observations_in, attested_in}
+use Rattle.frame.specs.Decode.{count_in, list_place, observation_at, attested_in}
 use Rattle.frame.proofs.Ranges.{OneTo}
-use Rattle.frame.proofs.Checked.{CheckedFinal, checked_final}
 use Rattle.frame.proofs.Entries.{length_entries}
 use Rattle.ledger.specs.declared.Ledger.{Ledger}
 use Rattle.ledger.specs.Ledger.{credited, emptied, account_at, paid_out, owed, covered, depositing, earning, withdrawing}
@@ -24,7 +22,7 @@ use Rattle.ledger.proofs.Claims.{nothing_is_lost}
 use Rattle.contract.specs.declared.Contract.{Contract}
 use Rattle.contract.specs.State.{place_of}
 use Rattle.contract.specs.Calls.{answer_of, refusal_of, withdraw_answer, earning_all, paying}
-use Rattle.contract.proofs.Facts.{ContractGood, terms_facts, contract_facts, withdraw_passed, place_within, submit_passed}
+use Rattle.contract.proofs.Facts.{ContractGood, terms_facts, contract_facts, withdraw_passed, withdraw_place, submit_passed}
 use Rattle.contract.proofs.Bodies.{listed_each}
 use Rattle.contract.proofs.Fees.{listed_in, listed_count, fund_all}
 
@@ -73,10 +71,8 @@ deposit_moved l amount = record { deposits = refl; owed_too = omega arith; paid 
 
 pub withdraw_moved : (c : Contract) (member : ℕ) → length c.ledger.accounts ≡ members → is_done (withdraw_answer c member) ≡ true → Moved c.ledger (withdrawing c.ledger (place_of member)) 0 (account_at c.ledger.accounts (place_of member)).balance
 withdraw_moved c member long h =
-    let p = withdraw_passed c member h in
-    let g = contract_facts c p.0 in
-    let t = terms_facts c.terms g.terms in
-    let k = place_within c.terms.n c.terms.f member t.members p.1 in
+    let g = contract_facts c (withdraw_passed c member h).0 in
+    let k = withdraw_place c member h in
     moved_withdraw c.ledger (place_of member) g.deposits g.covers (omega arith)
 
 -- what an accepted report leaves to the payment of its fees

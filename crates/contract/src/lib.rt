@@ -156,21 +156,18 @@ impl Contract {
     }
 
     // A member submits a FINAL body, at a time, with verdict bits of its signers.
-    #[tactic(auto, using(crate::proofs::Facts::submit_payable), unfolding(crate::specs::Calls::submitted_of))]
+    #[tactic(auto, using(crate::proofs::Facts::submit_payable, crate::proofs::Facts::rejected_answer), unfolding(crate::specs::Calls::submitted_of))]
     pub fn submit(self, body: &[u8], transmitter: u8, time: u64, bits: u64) -> Submitted
         ensures { result ≡ submitted_of self body.now transmitter time bits }
     {
         let checked = self.check(body, transmitter, time, bits);
-        let answer = answer_of(checked);
-        let fault = fault_of(checked);
-        let contract = if answer.is_ok() {
-            self.accepted(body, transmitter, time)
-        } else {
-            self
+        let contract = match checked {
+            Ok(()) => self.accepted(body, transmitter, time),
+            Err(_) => self,
         };
         Submitted {
-            answer,
-            fault,
+            answer: checked.map_err(Refusal::from),
+            fault: fault_of(checked),
             contract,
         }
     }
@@ -317,14 +314,6 @@ fn place_of(member: u8) -> usize
     ensures { result ≡ place_of member }
 {
     member as usize - 1
-}
-
-// What a submission is answered.
-fn answer_of(checked: Checked) -> Answer
-    ensures { result ≡ answer_of checked }
-{
-    checked?;
-    Ok(())
 }
 
 // What is told to be wrong with its report.
