@@ -15,10 +15,9 @@ use Rattle.sender.specs.declared.Released.{Released}
 use Rattle.sender.specs.declared.Made as sender
 use Rattle.sender.specs.Calls.{Sent}
 use Rattle.contract.specs.declared.Contract.{Contract}
+use Rattle.contract.specs.declared.Answered.{Answered}
 use Rattle.contract.specs.declared.Submitted.{Submitted}
-use Rattle.contract.specs.declared.Deposited.{Deposited}
 use Rattle.contract.specs.declared.Withdrawn.{Withdrawn}
-use Rattle.contract.specs.declared.Made as contract
 use Rattle.host.specs.declared.NodeOutcome.{NodeOutcome}
 use Rattle.host.specs.declared.LentNode.{LentNode}
 use Rattle.host.specs.declared.SenderOutcome.{SenderOutcome}
@@ -125,11 +124,11 @@ after_submit s =
     with_contract s.contract
     (record { amount = 0; place = fault_place s.fault; fault = fault_number s.fault; answer = number_of s.answer })
 
-abbrev pub after_deposit : Deposited → LentContract
+abbrev pub after_deposit : Answered → LentContract
 after_deposit d = with_contract d.contract (paying_outcome d.answer 0)
 
 abbrev pub after_withdraw : Withdrawn → LentContract
 after_withdraw w = with_contract w.contract (paying_outcome w.answer w.amount)
 
-abbrev pub after_contract_made : LentContract → contract.Made → LentContract
+abbrev pub after_contract_made : LentContract → Answered → LentContract
 after_contract_made l m = with_contract (cond (is_done m.answer) m.contract l.contract) (paying_outcome m.answer 0)
