@@ -99,11 +99,11 @@ impl LentSender {
         let answer = t.answer;
         let sender = t.sender;
         let transmit = t.transmit;
-        let handed = t.handed;
+        let (start, len) = t.handed.map_or((0, 0), |part| (part.start, part.len));
         let outcome = SenderOutcome {
             milliseconds: milliseconds_of(transmit),
-            start: handed.start,
-            len: handed.len,
+            start,
+            len,
             transmit: transmit_number(transmit),
             answer: answer.number(),
         };

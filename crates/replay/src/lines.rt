@@ -66,10 +66,13 @@ pub fn transmit<R: Print>(rt: &R, transmit: Transmit) -> io::Result<()> {
     }
 }
 
-// The part of the slots that a timeout hands out.
-pub fn part<R: Print>(rt: &R, part: Part) -> io::Result<()> {
+// The part of the slots that a timeout hands out; `0+0` where none is.
+pub fn part<R: Print>(rt: &R, part: Option<Part>) -> io::Result<()> {
     say(rt, b' ')?;
-    place(rt, part.start, part.len)
+    match part {
+        Some(part) => place(rt, part.start, part.len),
+        None => place(rt, 0, 0),
+    }
 }
 
 fn place<R: Print>(rt: &R, start: usize, len: usize) -> io::Result<()> {
