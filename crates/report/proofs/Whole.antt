@@ -41,9 +41,6 @@ module _ {b : List ℕ} (h : WholeReport b) where
   unfolding body_length
   report_signers = omega (arith, h.within)
 
-  pub report_signer : (i : ℕ) → i < signer_count_in b → SignersIn i b
-  report_signer i known = record { known = known; within = h.within }
-
 -- ---- parts
 
 pub part_within : (b : List ℕ) (start len : ℕ) → start + len ≤ length b → part_of b start len ≡ part b start len
