@@ -10,7 +10,7 @@ use lib.Seq.{get_or-take}
 use Rattle.wire.specs.Numbers.{part}
 use Rattle.quorum.specs.First.{column, first_repeat, distinct}
 use Rattle.frame.specs.Table.{shape_of, body_length}
-use Rattle.frame.specs.Decode.{entries, signer_count_in, list_place, list_end, SignersIn}
+use Rattle.frame.specs.Decode.{entries, signer_count_in, list_place, list_end}
 use Rattle.frame.proofs.Entries.{length_entries}
 use Rattle.report.specs.Whole.{WholeList, WholeReport, part_of}
 
