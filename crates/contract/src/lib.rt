@@ -95,8 +95,8 @@ impl From<Rejection> for Refusal {
     // The answer that a rejection is given.
     fn from(rejection: Rejection) -> Refusal {
         match rejection {
-            Rejection::Plain(refusal) => refusal,
-            Rejection::Wrong(fault) => Refusal::from(fault),
+            Rejection::Plain(plain) => plain,
+            Rejection::Wrong(wrong) => Refusal::from(wrong),
         }
     }
 }
@@ -321,7 +321,7 @@ fn fault_of(checked: Checked) -> Standing
     ensures { result ≡ fault_of checked }
 {
     match checked {
-        Err(Rejection::Wrong(fault)) => Err(fault),
+        Err(Rejection::Wrong(wrong)) => Err(wrong),
         _ => Ok(()),
     }
 }
