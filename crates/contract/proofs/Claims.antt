@@ -38,7 +38,7 @@ use Rattle.ledger.proofs.Sums.{paid_credited}
 use Rattle.contract.specs.declared.Terms.{Terms}
 use Rattle.contract.specs.declared.Contract.{Contract}
 use Rattle.contract.specs.State.{good_contract, fresh_contract, place_of, good_terms}
-use Rattle.contract.specs.Calls.{after_report, after_old, after_range, refusal_of, earning_all, paying, accepting, with_ledger, deposit_answer, withdraw_answer, submitted_of, deposited_of, withdrawn_of}
+use Rattle.contract.specs.Calls.{answer_of, after_report, after_old, after_range, refusal_of, earning_all, paying, accepting, with_ledger, deposit_answer, withdraw_answer, submitted_of, deposited_of, withdrawn_of}
 use Rattle.contract.specs.History.{Call, submits, deposits, withdraws, after, run, pays_in, pays_out, paid_in, payments}
 use Rattle.contract.specs.Claims.{DepositsAddUp, RecordsTheHistory, Recorded, OneResult, RefusalChangesNothing, FreshIsGood, GoodStaysGood, RefusedIsNoContract, answered, Accepted, AcceptedPassed, AcceptedMedianIsBetweenGood, DoneSetsTheCommit, NotOlder, CommitOnlyRises, TermsStay, ExactFees, FeesOutOfTheFund, PaysTheBalance, WithdrawalPaysTheBalance}
 use Rattle.contract.proofs.Facts.{terms_facts, contract_facts, good_contract_lem, deposit_passed, withdraw_passed, place_within, submit_passed}
@@ -103,9 +103,9 @@ done_sets_the_commit c body transmitter time bits h = rw h
 
 rises_once : (c : Contract) (call : Call) → NotOlder c (after c call)
 unfolding submitted_of deposited_of withdrawn_of accepting
-rises_once c (submits body transmitter time bits) = go (is_done (refusal_of c body transmitter time bits).answer) refl
+rises_once c (submits body transmitter time bits) = go (is_done (answer_of (refusal_of c body transmitter time bits))) refl
   where
-    go : (b : Bool) → is_done (refusal_of c body transmitter time bits).answer ≡ b → ((cond b (accepting c (attested_in body) transmitter time) c).commit ≡ c.commit) ⊎ (newer (cond b (accepting c (attested_in body) transmitter time) c).commit.epoch (cond b (accepting c (attested_in body) transmitter time) c).commit.round c.commit.epoch c.commit.round ≡ true)
+    go : (b : Bool) → is_done (answer_of (refusal_of c body transmitter time bits)) ≡ b → ((cond b (accepting c (attested_in body) transmitter time) c).commit ≡ c.commit) ⊎ (newer (cond b (accepting c (attested_in body) transmitter time) c).commit.epoch (cond b (accepting c (attested_in body) transmitter time) c).commit.round c.commit.epoch c.commit.round ≡ true)
     go true e = inr (submit_passed c body transmitter time bits e).range.rises
     go false e = inl refl
 rises_once c (deposits amount) = inl (same_commit (is_done (deposit_answer c amount)) c (depositing c.ledger amount))
@@ -123,7 +123,7 @@ SameTerms c d = d.terms ≡ c.terms
 -- whether a call is refused or not
 pub terms_once : (c : Contract) (call : Call) → (after c call).terms ≡ c.terms
 unfolding submitted_of deposited_of withdrawn_of accepting
-terms_once c (submits body transmitter time bits) = either (SameTerms c) (is_done (refusal_of c body transmitter time bits).answer) _ _ (λ _. refl) (λ _. refl)
+terms_once c (submits body transmitter time bits) = either (SameTerms c) (is_done (answer_of (refusal_of c body transmitter time bits))) _ _ (λ _. refl) (λ _. refl)
 terms_once c (deposits amount) = either (SameTerms c) (is_done (deposit_answer c amount)) _ _ (λ _. refl) (λ _. refl)
 terms_once c (withdraws member) = either (SameTerms c) (is_done (withdraw_answer c member)) _ _ (λ _. refl) (λ _. refl)
 
@@ -136,9 +136,9 @@ terms_stay c (call ∷ calls) = terms_stay (after c call) calls ∙ terms_once c
 
 moved_call : (c : Contract) (call : Call) → length c.ledger.accounts ≡ members → Moved c.ledger (after c call).ledger (pays_in c call) (pays_out c call)
 unfolding submitted_of deposited_of withdrawn_of accepting
-moved_call c (submits body transmitter time bits) long = go (is_done (refusal_of c body transmitter time bits).answer) refl
+moved_call c (submits body transmitter time bits) long = go (is_done (answer_of (refusal_of c body transmitter time bits))) refl
   where
-    go : (b : Bool) → is_done (refusal_of c body transmitter time bits).answer ≡ b → Moved c.ledger (cond b (accepting c (attested_in body) transmitter time) c).ledger 0 0
+    go : (b : Bool) → is_done (answer_of (refusal_of c body transmitter time bits)) ≡ b → Moved c.ledger (cond b (accepting c (attested_in body) transmitter time) c).ledger 0 0
     go true e = submit_moved c body transmitter time bits long e
     go false e = moved_none c.ledger
 moved_call c (deposits amount) long = go (is_done (deposit_answer c amount)) refl
@@ -174,9 +174,9 @@ fresh_is_good t h = good_contract_lem (fresh_contract t) (record { terms = h; co
 
 pub good_stays_good : GoodStaysGood
 unfolding submitted_of deposited_of withdrawn_of accepting
-good_stays_good c (submits body transmitter time bits) long h = go (is_done (refusal_of c body transmitter time bits).answer) refl
+good_stays_good c (submits body transmitter time bits) long h = go (is_done (answer_of (refusal_of c body transmitter time bits))) refl
   where
-    go : (b : Bool) → is_done (refusal_of c body transmitter time bits).answer ≡ b → good_contract (cond b (accepting c (attested_in body) transmitter time) c) ≡ true
+    go : (b : Bool) → is_done (answer_of (refusal_of c body transmitter time bits)) ≡ b → good_contract (cond b (accepting c (attested_in body) transmitter time) c) ≡ true
     go true e =
         let g = contract_facts c h in
         let p = submit_passed c body transmitter time bits e in

@@ -5,7 +5,7 @@ use Prim.Native.Nat.{ℕ, suc, ◌+◌, ◌-◌, ◌*◌, ◌≤◌, ◌<◌}
 use native.Mathlib.Nat.{suc-mul, zero-mul}
 use native.Mathlib.Omega.{arith}
 use native.Mathlib.Numerals.{add-one}
-use lib.ListN.{length, get_or, drop}
+use lib.ListN.{length, get_or, drop, drop_of_length-le}
 use lib.Seq.{drop-cons}
 use Rattle.frame.specs.Message.{Observation}
 use Rattle.frame.specs.Table.{shape_of}
@@ -43,3 +43,8 @@ fund_all l (member ∷ listed) a h =
 pub earn_next : (l : Ledger) (listed : List ℕ) (i a member : ℕ) → i < length listed → member ≡ get_or listed i 0 → earning_all (earning l (place_of member) a) (drop (i + 1) listed) a ≡ earning_all l (drop i listed) a
 unfolding earning_all
 earn_next l listed i a member h e = rw (e, add-one i, drop-cons listed i 0 h)
+
+-- and past its end there are none
+pub earn_end : (l : Ledger) (listed : List ℕ) (i a : ℕ) → length listed ≤ i → earning_all l (drop i listed) a ≡ l
+unfolding earning_all
+earn_end l listed i a h = rw (drop_of_length-le listed {i = i} h)

@@ -5,23 +5,23 @@ use mathlib.Core.List.{List, [], ◌∷◌}
 use Prim.Native.Nat.{ℕ, ◌+◌}
 use lib.Dec.{ltb}
 use lib.ListN.{length}
+use Rattle.std.specs.Prelude.{Ok, Err}
 use Rattle.config.specs.Limits.{most_deposits}
 use Rattle.config.specs.Bounds.{good_own, good_time}
-use Rattle.config.specs.Codes.{number_of, is_done}
+use Rattle.config.specs.Codes.{number_of}
+use Rattle.config.specs.Answers.{Answer}
 use Rattle.config.specs.Answers as answer
 use Rattle.frame.specs.Message.{Attested}
 use Rattle.frame.specs.Decode.{attested_in}
 use Rattle.frame.specs.Check.{body_answer}
-use Rattle.report.specs.declared.Fault.{Fault}
-use Rattle.report.specs.Faults.{Nothing, Few, Falling, Twice, TooFewSigners, SignerTwice, ClearBit}
-use Rattle.report.specs.Faults.{code_of}
+use Rattle.report.specs.declared.Fault.TheVariants.{Few, Falling, Twice, TooFewSigners, SignerTwice, ClearBit}
+use Rattle.report.specs.Faults.{Standing}
 use Rattle.report.specs.Stands.{attested_fault}
 use Rattle.report.specs.Newer.{newer}
 use Rattle.report.proofs.Listed.{In, either_in, body_in_lem}
 use Rattle.contract.specs.declared.Contract.{Contract}
-use Rattle.contract.specs.declared.Refusal.{Refusal}
 use Rattle.contract.specs.State.{good_terms, good_contract}
-use Rattle.contract.specs.Calls.{made_of, cost, after_report, after_old, after_range, refusal_of, submitted_of, deposit_answer, deposited_of, withdraw_answer, withdrawn_of}
+use Rattle.contract.specs.Calls.{made_of, cost, Checked, answer_of, after_report, unless_wrong, unless_refused, after_old, after_range, refusal_of, submitted_of, deposit_answer, deposited_of, withdraw_answer, withdrawn_of}
 use Rattle.contract.specs.History.{Call, submits, deposits, withdraws}
 use Rattle.contract.specs.Claims.{answered, listed, AnswersAreListed}
 
@@ -31,37 +31,39 @@ module _ (body : List ℕ) (transmitter time bits : ℕ) where
   abbrev all : List ℕ
   all = listed (submits body transmitter time bits)
 
-  abbrev Says : Refusal → Type 0
-  Says r = In all r.answer
+  abbrev Says : Checked → Type 0
+  Says r = In all (answer_of r)
 
-  either_says : (t : Bool) (x y : Refusal) → Says x → Says y → Says (cond t x y)
+  either_says : (t : Bool) (x y : Checked) → Says x → Says y → Says (cond t x y)
   either_says true x y p q = p
   either_says false x y p q = q
 
-  fault_in : (x : Fault) → In all (code_of x)
+  fault_in : (x : Standing) (later : Checked) → Says later → Says (unless_wrong x later)
   unfolding number_of
-  fault_in Nothing = refl
-  fault_in Few = refl
-  fault_in Falling = refl
-  fault_in Twice = refl
-  fault_in TooFewSigners = refl
-  fault_in (SignerTwice i) = refl
-  fault_in (ClearBit i) = refl
+  fault_in (Ok tt) later p = p
+  fault_in (Err Few) later p = refl
+  fault_in (Err Falling) later p = refl
+  fault_in (Err Twice) later p = refl
+  fault_in (Err TooFewSigners) later p = refl
+  fault_in (Err (SignerTwice i)) later p = refl
+  fault_in (Err (ClearBit i)) later p = refl
+
+  refused_in : (said : Answer) (later : Checked) → In all said → Says later → Says (unless_refused said later)
+  refused_in (Ok tt) later p q = q
+  refused_in (Err r) later p q = p
 
   range_in : (c : Contract) (a : Attested) → Says (after_range c a transmitter bits)
   unfolding number_of after_range after_old after_report
   range_in c a =
-      let wrong = attested_fault c.terms.f bits a in
       either_says (not (newer a.epoch a.round c.commit.epoch c.commit.round)) _ _ refl
-      (either_says (is_done (code_of wrong)) _ _
-      (either_says (not (good_own c.terms.n transmitter)) _ _ refl (either_says (ltb c.ledger.fund (cost c.terms (length a.list))) _ _ refl refl))
-      (fault_in wrong))
+      (fault_in (attested_fault c.terms.f bits a) _
+      (either_says (not (good_own c.terms.n transmitter)) _ _ refl (either_says (ltb c.ledger.fund (cost c.terms (length a.list))) _ _ refl refl)))
 
   refusal_in : (c : Contract) → Says (refusal_of c body transmitter time bits)
   unfolding number_of refusal_of
   refusal_in c =
       either_says (not (good_contract c)) _ _ refl
-      (either_says (not (is_done (body_answer c.terms.n 6 body))) _ _ (body_in_lem all c.terms.n 6 body refl refl refl)
+      (refused_in (body_answer c.terms.n 6 body) _ (body_in_lem all c.terms.n 6 body refl refl refl)
       (either_says (not (good_time time)) _ _ refl (range_in c (attested_in body))))
 
 -- ---- all of them

@@ -23,7 +23,7 @@ use Rattle.ledger.proofs.Sums.{sums_set}
 use Rattle.ledger.proofs.Claims.{nothing_is_lost}
 use Rattle.contract.specs.declared.Contract.{Contract}
 use Rattle.contract.specs.State.{place_of}
-use Rattle.contract.specs.Calls.{refusal_of, withdraw_answer, earning_all, paying}
+use Rattle.contract.specs.Calls.{answer_of, refusal_of, withdraw_answer, earning_all, paying}
 use Rattle.contract.proofs.Facts.{ContractGood, terms_facts, contract_facts, withdraw_passed, place_within, submit_passed}
 use Rattle.contract.proofs.Fees.{listed_in, listed_count, fund_all}
 
@@ -94,7 +94,7 @@ pub record Ready (c : Contract) (listed : List ℕ) (transmitter : ℕ) : Type 0
   pub own : Own c.terms.n transmitter
   pub fund : length listed * c.terms.observation_fee + c.terms.sending_fee ≤ c.ledger.fund
 
-pub submit_ready : (c : Contract) (body : List ℕ) (transmitter time bits : ℕ) → length c.ledger.accounts ≡ members → is_done (refusal_of c body transmitter time bits).answer ≡ true → Ready c (listed_in body) transmitter
+pub submit_ready : (c : Contract) (body : List ℕ) (transmitter time bits : ℕ) → length c.ledger.accounts ≡ members → is_done (answer_of (refusal_of c body transmitter time bits)) ≡ true → Ready c (listed_in body) transmitter
 submit_ready c body transmitter time bits long h =
     let p = submit_passed c body transmitter time bits h in
     let g = contract_facts c p.good in
@@ -122,7 +122,7 @@ ready_listed c listed transmitter r =
       fund = omega arith;
     }
 
-pub submit_moved : (c : Contract) (body : List ℕ) (transmitter time bits : ℕ) → length c.ledger.accounts ≡ members → is_done (refusal_of c body transmitter time bits).answer ≡ true → Moved c.ledger (paying c.terms c.ledger (listed_in body) transmitter) 0 0
+pub submit_moved : (c : Contract) (body : List ℕ) (transmitter time bits : ℕ) → length c.ledger.accounts ≡ members → is_done (answer_of (refusal_of c body transmitter time bits)) ≡ true → Moved c.ledger (paying c.terms c.ledger (listed_in body) transmitter) 0 0
 unfolding paying
 submit_moved c body transmitter time bits long h =
     let r = submit_ready c body transmitter time bits long h in

@@ -14,9 +14,8 @@ use Rattle.report.specs.Newer.{newer}
 use Rattle.report.specs.Claims.{BetweenGood}
 use Rattle.contract.specs.declared.Terms.{Terms}
 use Rattle.contract.specs.declared.Contract.{Contract}
-use Rattle.contract.specs.declared.Made.{Made}
+use Rattle.contract.specs.declared.Answered.{Answered}
 use Rattle.contract.specs.declared.Submitted.{Submitted}
-use Rattle.contract.specs.declared.Deposited.{Deposited}
 use Rattle.contract.specs.declared.Withdrawn.{Withdrawn}
 use Rattle.contract.specs.State.{good_terms, good_contract, fresh_contract, place_of}
 use Rattle.ledger.specs.Ledger.{account_at, balances, paid_out}
@@ -56,9 +55,9 @@ AnswersAreListed = (c : Contract) (call : Call) (t : Terms) → Listed c call t
 
 -- What one promise allows is one result.
 pub record OneEach (c : Contract) (t : Terms) : Type 0 where
-  pub made : (r r' : Made) → r ≡ made_of t → r' ≡ made_of t → r ≡ r'
+  pub made : (r r' : Answered) → r ≡ made_of t → r' ≡ made_of t → r ≡ r'
   pub submit : (body : List ℕ) (transmitter time bits : ℕ) (r r' : Submitted) → r ≡ submitted_of c body transmitter time bits → r' ≡ submitted_of c body transmitter time bits → r ≡ r'
-  pub deposit : (amount : ℕ) (r r' : Deposited) → r ≡ deposited_of c amount → r' ≡ deposited_of c amount → r ≡ r'
+  pub deposit : (amount : ℕ) (r r' : Answered) → r ≡ deposited_of c amount → r' ≡ deposited_of c amount → r ≡ r'
   pub withdraw : (member : ℕ) (r r' : Withdrawn) → r ≡ withdrawn_of c member → r' ≡ withdrawn_of c member → r ≡ r'
 
 abbrev pub OneResult : Type 0

@@ -1,18 +1,20 @@
 // The contract: which report it accepts, the median it publishes, and the fees it pays out of its fund.
 #![tactic(auto)]
 
-ghost use Rattle.std.specs.Prelude.{◌≡◌, true, ◌≤◌};
+ghost use Rattle.std.specs.Prelude.{◌≡◌, true, ◌≤◌, Err};
 ghost use Rattle.config.specs.Answers.{Done};
 ghost use Rattle.frame.specs.Decode.{attested_in};
 ghost use Rattle.frame.specs.Check.{body_answer};
 ghost use Rattle.report.specs.Stands.{members_of};
 ghost use Rattle.contract.specs.State.{good_terms, good_contract, place_of};
 ghost use Rattle.contract.specs.Payable.{CoversAll, Covers, Payable};
-ghost use Rattle.contract.specs.Calls.{made_of, cost, plainly, after_report, after_range, refusal_of, earning_all, paying, accepting, submitted_of, deposit_answer, deposited_of, withdraw_answer, withdrawn_of};
+ghost use Rattle.contract.specs.Calls.{made_of, cost, answer_of, fault_of, after_report, after_range, refusal_of, earning_all, paying, accepting, submitted_of, deposit_answer, deposited_of, withdraw_answer, withdrawn_of};
+ghost use Rattle.contract.specs.declared.Rejection.TheVariants.{Plain, Wrong};
 
-use config::{Answer, Commit, Config};
+use config::{Answer, Commit, Config, Refusal};
+use frame::Kind;
 use ledger::Ledger;
-use report::Fault;
+use report::{Fault, Standing};
 
 // What a contract was made with.
 #[repr(C)]
@@ -36,32 +38,30 @@ pub struct Contract {
     pub terms: Terms,
 }
 
-// What making a contract came to.
+// What making a contract, or paying into one, came to.
 #[derive(Clone, Copy)]
-pub struct Made {
+pub struct Answered {
     pub answer: Answer,
     pub contract: Contract,
 }
 
-// What a submission is answered before it is paid for: DONE or a code; `fault` is the detail where checks 14 to 17 refuse it.
+// Why a submission is not accepted.
 #[derive(Clone, Copy)]
-pub struct Refusal {
-    pub answer: Answer,
-    pub fault: Fault,
+pub enum Rejection {
+    // for a reason that its code tells
+    Plain(Refusal),
+    // this is wrong with its report, by checks 14 to 17
+    Wrong(Fault),
 }
 
-// What a submission came to.
+// Whether a submission is accepted, and else why not.
+pub type Checked = Result<(), Rejection>;
+
+// What a submission came to; `fault` is what checks 14 to 17 refuse it for.
 #[derive(Clone, Copy)]
 pub struct Submitted {
     pub answer: Answer,
-    pub fault: Fault,
-    pub contract: Contract,
-}
-
-// What a deposit came to.
-#[derive(Clone, Copy)]
-pub struct Deposited {
-    pub answer: Answer,
+    pub fault: Standing,
     pub contract: Contract,
 }
 
@@ -71,6 +71,34 @@ pub struct Withdrawn {
     pub answer: Answer,
     pub amount: u64,
     pub contract: Contract,
+}
+
+impl From<Refusal> for Rejection {
+    ghost from_gives = { λ refusal rejection. rejection ≡ Plain refusal };
+
+    fn from(refusal: Refusal) -> Rejection {
+        Rejection::Plain(refusal)
+    }
+}
+
+impl From<Fault> for Rejection {
+    ghost from_gives = { λ fault rejection. rejection ≡ Wrong fault };
+
+    fn from(fault: Fault) -> Rejection {
+        Rejection::Wrong(fault)
+    }
+}
+
+impl From<Rejection> for Refusal {
+    ghost from_gives = { λ rejection refusal. Err refusal ≡ answer_of (Err rejection) };
+
+    // The answer that a rejection is given.
+    fn from(rejection: Rejection) -> Refusal {
+        match rejection {
+            Rejection::Plain(refusal) => refusal,
+            Rejection::Wrong(fault) => Refusal::from(fault),
+        }
+    }
 }
 
 impl Terms {
@@ -97,20 +125,19 @@ impl Terms {
 impl Contract {
     // A contract under these terms that nobody has paid into; CONFIG where they are out of range.
     #[tactic(auto, unfolding(crate::specs::Calls::made_of))]
-    pub fn fresh(terms: Terms) -> Made
+    pub fn fresh(terms: Terms) -> Answered
         ensures { result ≡ made_of terms }
     {
-        let ledger = Ledger::empty();
         let commit = Commit {
             median: 0,
             time: 0,
             epoch: 0,
             round: 0,
         };
-        Made {
-            answer: Answer::of_making(terms.good()),
+        Answered {
+            answer: config::of_making(terms.good()),
             contract: Contract {
-                ledger,
+                ledger: Ledger::empty(),
                 commit,
                 terms,
             },
@@ -122,105 +149,90 @@ impl Contract {
     pub fn good(self) -> bool
         ensures { result ≡ good_contract self }
     {
-        let ledger = self.ledger;
-        let commit = self.commit;
-        let terms = self.terms;
-        terms.good() & commit.good() & (ledger.deposits <= Config::MOST_DEPOSITS) & ledger.covered()
+        self.terms.good()
+            & self.commit.good()
+            & (self.ledger.deposits <= Config::MOST_DEPOSITS)
+            & self.ledger.covered()
     }
 
     // A member submits a FINAL body, at a time, with verdict bits of its signers.
-    #[tactic(auto, unfolding(crate::specs::Calls::submitted_of))]
+    #[tactic(auto, using(crate::proofs::Facts::submit_payable), unfolding(crate::specs::Calls::submitted_of))]
     pub fn submit(self, body: &[u8], transmitter: u8, time: u64, bits: u64) -> Submitted
         ensures { result ≡ submitted_of self body.now transmitter time bits }
     {
-        let refusal = self.refusal(body, transmitter, time, bits);
-        let answer = refusal.answer;
-        let fault = refusal.fault;
-        if answer.is_done() {
-            let contract = self.accepted(body, transmitter, time);
-            return Submitted {
-                answer,
-                fault,
-                contract,
-            };
-        }
+        let checked = self.check(body, transmitter, time, bits);
+        let answer = answer_of(checked);
+        let fault = fault_of(checked);
+        let contract = if answer.is_ok() {
+            self.accepted(body, transmitter, time)
+        } else {
+            self
+        };
         Submitted {
             answer,
             fault,
-            contract: self,
+            contract,
         }
     }
 
-    // What a submission is refused with: 2, 8, 9, 13, 14 to 17, 7, 18, first match wins.
-    #[tactic(auto, using(config::proofs::Facts::done_only), unfolding(crate::specs::Calls::refusal_of))]
-    fn refusal(self, body: &[u8], transmitter: u8, time: u64, bits: u64) -> Refusal
+    // Whether a submission is accepted: 2, 8, 9, 13, 14 to 17, 7, 18, first match wins.
+    #[tactic(auto, unfolding(crate::specs::Calls::refusal_of))]
+    fn check(self, body: &[u8], transmitter: u8, time: u64, bits: u64) -> Checked
         ensures { result ≡ refusal_of self body.now transmitter time bits }
     {
         if !self.good() {
-            return plainly(Answer::State);
+            return Err(Rejection::Plain(Refusal::State));
         }
-        let terms = self.terms;
-        let answer = frame::check_final(body, terms.n);
-        if !answer.is_done() {
-            return plainly(answer);
-        }
+        frame::check_final(body, self.terms.n)?;
         if !config::good_time(time) {
-            return plainly(Answer::Range);
+            return Err(Rejection::Plain(Refusal::Range));
         }
-        self.after_range(body, transmitter, bits)
+        self.check_report(body, transmitter, bits)
     }
 
     // 13, then 14 to 17, of a body in range; then 7 and 18.
-    #[tactic(auto, using(frame::proofs::Entries::length_entries), unfolding(crate::specs::Calls::after_range, crate::specs::Calls::after_old))]
-    fn after_range(self, body: &[u8], transmitter: u8, bits: u64) -> Refusal
+    #[tactic(auto, using(frame::proofs::Entries::length_entries, report::proofs::Whole::report_head, crate::proofs::Bodies::whole_report), unfolding(crate::specs::Calls::after_range, crate::specs::Calls::after_old))]
+    fn check_report(self, body: &[u8], transmitter: u8, bits: u64) -> Checked
         requires { (body_answer self.terms.n 6 body.now ≡ Done) × (good_contract self ≡ true) }
         ensures { result ≡ after_range self (attested_in body.now) transmitter bits }
     {
         let commit = self.commit;
-        let terms = self.terms;
         if !report::newer(
             frame::epoch_of(body),
             frame::round_of(body),
             commit.epoch,
             commit.round,
         ) {
-            return plainly(Answer::Old);
+            return Err(Rejection::Plain(Refusal::Old));
         }
-        let fault = report::attested_fault(body, terms.f, bits);
-        let answer = fault.code();
-        if !answer.is_done() {
-            return Refusal { answer, fault };
-        }
-        self.after_report(frame::count_of(body), transmitter)
+        report::attested_fault(body, self.terms.f, bits)?;
+        self.check_payment(frame::count_of(body), transmitter)
     }
 
     // 7, then 18, of a report of m observations that stands.
     #[tactic(auto, using(crate::proofs::Facts::contract_facts), unfolding(crate::specs::Calls::after_report))]
-    fn after_report(self, m: usize, transmitter: u8) -> Refusal
+    fn check_payment(self, m: usize, transmitter: u8) -> Checked
         requires { (m ≤ 255) × (good_contract self ≡ true) }
         ensures { result ≡ after_report self m transmitter }
     {
-        let ledger = self.ledger;
-        let terms = self.terms;
-        if !config::good_own(terms.n, transmitter) {
-            return plainly(Answer::Sender);
+        if !config::good_own(self.terms.n, transmitter) {
+            return Err(Rejection::Plain(Refusal::Sender));
         }
-        if ledger.fund < terms.cost(m) {
-            return plainly(Answer::Funds);
+        if self.ledger.fund < self.terms.cost(m) {
+            return Err(Rejection::Plain(Refusal::Funds));
         }
-        plainly(Answer::Done)
+        Ok(())
     }
 
     // The contract after a report that is accepted.
-    #[tactic(auto, unfolding(crate::specs::Calls::accepting))]
+    #[tactic(auto, using(report::proofs::Whole::report_head, report::proofs::Whole::report_list, crate::proofs::Bodies::whole_report, crate::proofs::Bodies::some_listed), unfolding(crate::specs::Calls::accepting))]
     fn accepted(self, body: &[u8], transmitter: u8, time: u64) -> Contract
         requires { Payable self transmitter body.now }
         ensures { result ≡ accepting self (attested_in body.now) transmitter time }
     {
-        let terms = self.terms;
-        let ledger = paid(terms, self.ledger, body, transmitter);
+        let ledger = paid(self.terms, self.ledger, body, transmitter);
         let commit = Commit {
-            median: report::median(body, frame::stride(6)),
+            median: report::median(body, frame::stride(Kind::Final)),
             time,
             epoch: frame::epoch_of(body),
             round: frame::round_of(body),
@@ -228,65 +240,59 @@ impl Contract {
         Contract {
             ledger,
             commit,
-            terms,
+            ..self
         }
     }
 
     // An amount is paid in.
-    #[tactic(auto, unfolding(crate::specs::Calls::deposited_of))]
-    pub fn deposit(self, amount: u64) -> Deposited
+    #[tactic(auto, using(crate::proofs::Facts::deposit_room), unfolding(crate::specs::Calls::deposited_of))]
+    pub fn deposit(self, amount: u64) -> Answered
         ensures { result ≡ deposited_of self amount }
     {
         let answer = self.deposit_answer(amount);
-        if answer.is_done() {
-            let ledger = self.ledger;
-            let ledger = ledger.deposit(amount);
-            let contract = Contract { ledger, ..self };
-            return Deposited { answer, contract };
-        }
-        Deposited {
-            answer,
-            contract: self,
-        }
+        let contract = if answer.is_ok() {
+            let ledger = self.ledger.deposit(amount);
+            Contract { ledger, ..self }
+        } else {
+            self
+        };
+        Answered { answer, contract }
     }
 
     // 2, 9.
-    #[tactic(auto, unfolding(crate::specs::Calls::deposit_answer))]
+    #[tactic(auto, using(crate::proofs::Facts::deposits_within), unfolding(crate::specs::Calls::deposit_answer))]
     fn deposit_answer(self, amount: u64) -> Answer
         ensures { result ≡ deposit_answer self amount }
     {
         if !self.good() {
-            return Answer::State;
+            return Err(Refusal::State);
         }
-        let ledger = self.ledger;
-        if Config::MOST_DEPOSITS - ledger.deposits < amount {
-            return Answer::Range;
+        if Config::MOST_DEPOSITS - self.ledger.deposits < amount {
+            return Err(Refusal::Range);
         }
-        Answer::Done
+        Ok(())
     }
 
     // A member's whole balance is paid out.
-    #[tactic(auto, using(crate::proofs::Facts::withdraw_passed), unfolding(crate::specs::Calls::withdrawn_of))]
+    #[tactic(auto, using(crate::proofs::Facts::withdraw_place), unfolding(crate::specs::Calls::withdrawn_of))]
     pub fn withdraw(self, member: u8) -> Withdrawn
         ensures { result ≡ withdrawn_of self member }
     {
         let answer = self.withdraw_answer(member);
-        if answer.is_done() {
-            let place = place_of(member);
-            let ledger = self.ledger;
-            let amount = ledger.balance(place);
-            let ledger = ledger.withdraw(place);
-            let contract = Contract { ledger, ..self };
+        if answer.is_err() {
             return Withdrawn {
                 answer,
-                amount,
-                contract,
+                amount: 0,
+                contract: self,
             };
         }
+        let place = place_of(member);
+        let amount = self.ledger.balance(place);
+        let ledger = self.ledger.withdraw(place);
         Withdrawn {
             answer,
-            amount: 0,
-            contract: self,
+            amount,
+            contract: Contract { ledger, ..self },
         }
     }
 
@@ -296,13 +302,12 @@ impl Contract {
         ensures { result ≡ withdraw_answer self member }
     {
         if !self.good() {
-            return Answer::State;
+            return Err(Refusal::State);
         }
-        let terms = self.terms;
-        if !config::good_own(terms.n, member) {
-            return Answer::Sender;
+        if !config::good_own(self.terms.n, member) {
+            return Err(Refusal::Sender);
         }
-        Answer::Done
+        Ok(())
     }
 }
 
@@ -314,13 +319,21 @@ fn place_of(member: u8) -> usize
     member as usize - 1
 }
 
-// A refusal without a detail.
-fn plainly(answer: Answer) -> Refusal
-    ensures { result ≡ plainly answer }
+// What a submission is answered.
+fn answer_of(checked: Checked) -> Answer
+    ensures { result ≡ answer_of checked }
 {
-    Refusal {
-        answer,
-        fault: Fault::Nothing,
+    checked?;
+    Ok(())
+}
+
+// What is told to be wrong with its report.
+fn fault_of(checked: Checked) -> Standing
+    ensures { result ≡ fault_of checked }
+{
+    match checked {
+        Err(Rejection::Wrong(fault)) => Err(fault),
+        _ => Ok(()),
     }
 }
 
@@ -335,22 +348,17 @@ fn paid(terms: Terms, ledger: Ledger, body: &[u8], transmitter: u8) -> Ledger
 }
 
 // The ledger after each listed member has earned the observation fee. The turns alter one local: `Ledger::earn` would copy the ledger for each member.
-#[tactic(auto, using(crate::proofs::Fees::fees_next))]
+#[tactic(auto, using(report::proofs::Whole::report_head, crate::proofs::Bodies::whole_report, crate::proofs::Bodies::listed_entry, crate::proofs::Bodies::listed_member, crate::proofs::Fees::fees_next, crate::proofs::Fees::listed_count, crate::proofs::Fees::earn_next, crate::proofs::Fees::earn_end), unfolding(crate::specs::Calls::earning_all))]
 fn paid_all(terms: Terms, ledger: Ledger, body: &[u8]) -> Ledger
     requires { CoversAll terms ledger body.now }
     ensures { result ≡ earning_all ledger (members_of (attested_in body.now).list) terms.observation_fee }
 {
-    let m = frame::count_of(body);
-    let stride = frame::stride(6);
+    let stride = frame::stride(Kind::Final);
     let mut l = ledger;
-    let mut i: usize = 0;
-    while i < m {
+    for i in 0..frame::count_of(body) {
         let place = place_of(frame::member_at(body, stride, i));
-        l.fund = l.fund - terms.observation_fee;
-        let a = l.accounts[place];
-        let b = ledger::with_credit(a, terms.observation_fee);
-        l.accounts[place] = b;
-        i += 1;
+        l.fund -= terms.observation_fee;
+        l.accounts[place].credit(terms.observation_fee);
     }
     l
 }

@@ -5,7 +5,7 @@ ghost use Rattle.epochline.specs.Output.{running, calling};
 
 use crate::Command;
 use config::{Commit, Config};
-use node::{Fired, Node, Outcome};
+use node::{Arrival, Fired, Node, Outcome};
 
 // The call of a command.
 #[tactic(auto, unfolding(crate::specs::Output::calling))]
@@ -49,5 +49,13 @@ fn heard(
         epoch: 0,
         round: 0,
     };
-    node.deliver(j, 0, 0, commit, 0, &frame, outbox, 0, kept, signatures)
+    let arrival = Arrival {
+        link: j,
+        time: 0,
+        observation: 0,
+        commit,
+        bits: 0,
+        frame: &frame,
+    };
+    node.deliver(arrival, outbox, 0, kept, signatures)
 }

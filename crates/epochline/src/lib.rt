@@ -9,7 +9,7 @@ ghost use Rattle.std.specs.Prelude.{◌≡◌, List, ℕ};
 ghost use Rattle.node.specs.Calls.{out};
 ghost use Rattle.epochline.specs.Machine.{new_program, line_of, longer, on_line, machine, first_turn, later_turn, line_turn, byte_turn, end_turn, Leaves};
 
-use config::Answer;
+use config::Refusal;
 use node::Node;
 
 const NEWLINE: u8 = b'\n';
@@ -155,13 +155,13 @@ impl Program {
         ensures { (outbox kept signatures : List ℕ) → Leaves result outbox kept signatures out.old out.new (first_turn (machine self outbox kept signatures)) }
     {
         let made = Node::fresh(reading::config_in(self.line_so_far()));
-        if made.answer.is_done() {
+        if made.answer.is_ok() {
             return Fed {
                 program: self.on_line(made.node, Program::GOING),
                 written: 0,
             };
         }
-        let written = printing::print(out, Answer::Config.number(), 0, 0, 0);
+        let written = printing::print(out, Refusal::Config.number(), 0, 0, 0);
         Fed {
             program: self.on_line(made.node, Program::ENDED),
             written,

@@ -16,7 +16,7 @@ pub(crate) fn print_node(out: &mut [u8; Program::PRINTED], answer: Answer, node:
 {
     print(
         out,
-        answer.number(),
+        config::number(answer),
         node.pace.epoch,
         leader_shown(node),
         node.pace.highest,

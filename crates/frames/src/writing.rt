@@ -5,6 +5,7 @@ ghost use Rattle.frame.specs.Table.{trailer_length};
 ghost use Rattle.frame.specs.Range.{all_members};
 
 use config::Config;
+use frame::{Kind, NoKind};
 use std::io;
 use std::io::Print;
 
@@ -68,15 +69,15 @@ fn show_outbox<R: Print>(rt: &R, outbox: &[u8], at: usize, n: usize) -> io::Resu
 fn put(outbox: &mut [u8], at: usize, config: Config, kind: u8, said: &[u8]) -> usize
     requires { at + trailer_length ≤ length outbox.old }
 {
-    match kind {
-        1 => put_newepoch(outbox, at, config, said),
-        2 => put_observe_req(outbox, at, config, said),
-        3 => put_observe(outbox, at, config, said),
-        4 => put_report_req(outbox, at, config, said),
-        5 => put_report(outbox, at, config, said),
-        6 => put_final(outbox, at, config, said),
-        7 => put_final_echo(outbox, at, config, said),
-        _ => 0,
+    match Kind::try_from(kind) {
+        Ok(Kind::NewEpoch) => put_newepoch(outbox, at, config, said),
+        Ok(Kind::ObserveReq) => put_observe_req(outbox, at, config, said),
+        Ok(Kind::Observe) => put_observe(outbox, at, config, said),
+        Ok(Kind::ReportReq) => put_report_req(outbox, at, config, said),
+        Ok(Kind::Report) => put_report(outbox, at, config, said),
+        Ok(Kind::Final) => put_final(outbox, at, config, said),
+        Ok(Kind::FinalEcho) => put_final_echo(outbox, at, config, said),
+        Err(NoKind) => 0,
     }
 }
 
@@ -87,7 +88,7 @@ fn put_newepoch(outbox: &mut [u8], at: usize, config: Config, said: &[u8]) -> us
     if said.len() != 4 {
         return 0;
     }
-    if space(outbox.len(), at) < frame::body_length(1, 0, 0) {
+    if space(outbox.len(), at) < frame::body_length(Kind::NewEpoch, 0, 0) {
         return 0;
     }
     outbox::write_newepoch(outbox, at, config, wire::read::<u32>(said, 0))
@@ -100,7 +101,7 @@ fn put_observe_req(outbox: &mut [u8], at: usize, config: Config, said: &[u8]) ->
     if said.len() != 5 {
         return 0;
     }
-    if space(outbox.len(), at) < frame::body_length(2, 0, 0) {
+    if space(outbox.len(), at) < frame::body_length(Kind::ObserveReq, 0, 0) {
         return 0;
     }
     outbox::write_observe_req(outbox, at, config, wire::read::<u32>(said, 0), said[4])
@@ -113,7 +114,7 @@ fn put_observe(outbox: &mut [u8], at: usize, config: Config, said: &[u8]) -> usi
     if said.len() != 13 {
         return 0;
     }
-    if space(outbox.len(), at) < frame::body_length(3, 0, 0) {
+    if space(outbox.len(), at) < frame::body_length(Kind::Observe, 0, 0) {
         return 0;
     }
     outbox::write_observe(
@@ -166,7 +167,7 @@ fn put_requested(
     if tables.len() != (VALUE + Config::SIGNATURE) * many {
         return 0;
     }
-    if space(outbox.len(), at) < frame::body_length(4, order.len(), 0) {
+    if space(outbox.len(), at) < frame::body_length(Kind::ReportReq, order.len(), 0) {
         return 0;
     }
     if !good_members(order, n) {
@@ -194,10 +195,10 @@ fn put_report(outbox: &mut [u8], at: usize, config: Config, said: &[u8]) -> usiz
         return 0;
     }
     let m = frame::count_of(said);
-    if said.len() != frame::body_length(4, m, 0) {
+    if said.len() != frame::body_length(Kind::ReportReq, m, 0) {
         return 0;
     }
-    if space(outbox.len(), at) < frame::body_length(5, m, 0) {
+    if space(outbox.len(), at) < frame::body_length(Kind::Report, m, 0) {
         return 0;
     }
     outbox::write_report(outbox, at, config, said)
@@ -249,7 +250,7 @@ fn put_attested(
     if tables.len() != (VALUE + Config::SIGNATURE) * many {
         return 0;
     }
-    if space(outbox.len(), at) < frame::body_length(6, order.len(), signers.len()) {
+    if space(outbox.len(), at) < frame::body_length(Kind::Final, order.len(), signers.len()) {
         return 0;
     }
     if !(good_members(order, n) & good_members(signers, n)) {

@@ -255,10 +255,11 @@ fn put_said(out: &mut [u8], body: &[u8]) -> usize
     requires { (list_place + count_in body.now * (shape_of 5).entry ≤ length out.old) × (length body.now ≡ body_length 4 (count_in body.now) 0) }
     ensures { (out.new ≡ over out.old list_place (flat observation_bytes (observations_in (shape_of 4).entry body.now))) × (result ≡ list_place + count_in body.now * (shape_of 5).entry) }
 {
+    let signed = frame::stride(Kind::ReportReq);
     let stride = frame::stride(Kind::Report);
     let mut p = frame::LIST;
     for i in 0..frame::count_of(body) {
-        wire::copy(out, p, body, frame::LIST + i * frame::stride(Kind::ReportReq), stride);
+        wire::copy(out, p, body, frame::LIST + i * signed, stride);
         p += stride;
     }
     p

@@ -8,10 +8,6 @@ use Rattle.contract.proofs.paid_all.Given as goal
 abbrev pub invariant-loop-i : goal.invariant-loop-i
 invariant-loop-i l =
     let fee = l.terms.observation_fee in record {
-      some : l.i ≤ count_in l.body;
       funded : (count_in l.body - l.i) * fee ≤ l.l.fund;
       same : earning_all l.l (drop l.i (listed_in l.body)) fee ≡ earning_all l.initial.l (listed_in l.body) fee;
     }
-
-abbrev pub decreases-loop-i : goal.decreases-loop-i
-decreases-loop-i l = l.m - l.i

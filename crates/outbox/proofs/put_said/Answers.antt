@@ -21,7 +21,7 @@ loop-i-preserved c =
     let bytes : Bytes b = λ k. (c.type_inv.body k).fits in
     let known : l.i < count_in b = omega arith in
     let copied : c.copy.new.to ≡ over l.out l.p (part b (list_place + l.i * (shape_of 4).entry) (shape_of 5).entry) =
-    rw (c.stride.ensures, c.stride-stride.ensures) at c.copy.ensures in
+    rw (c.stride-signed.ensures, c.stride-stride.ensures) at c.copy.ensures in
     run_next l.invariant (observed_even no_observation (observations_in (shape_of 4).entry b)) known refl
     (copied ∙ ap (over l.out l.p) (said_copied b l.i bytes c.requires.1 known))
     (omega arith)

@@ -6,9 +6,9 @@ use Rattle.epochline.specs.Machine.{machine}
 use Rattle.epochline.proofs.Turns.{leaves_silent, first_goes}
 use Rattle.epochline.proofs.Program.first_turn.Goals as goal
 
-pub returns-then-is_done : goal.returns-then-is_done
-returns-then-is_done c outbox kept signatures =
+pub returns-then-is_ok : goal.returns-then-is_ok
+returns-then-is_ok c outbox kept signatures =
     let p = c.args.self in
     let made = c.fresh-made.ensures ∙ ap fresh_of (c.config_in.ensures ∙ ap config_in c.line_so_far.ensures) in
     leaves_silent c.on_line.ensures
-    (first_goes (machine p outbox kept signatures) c.fresh-made.result made (sym c.is_done.ensures ∙ c.if-is_done.true))
+    (first_goes (machine p outbox kept signatures) c.fresh-made.result made (sym c.is_ok.ensures.value ∙ c.if-is_ok.true))
