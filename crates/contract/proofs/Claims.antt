@@ -11,7 +11,7 @@ use lib.IntN.{pos}
 use lib.ListN.{length, length-map}
 use lib.Seq.{get_or-set_same, get_or-set_other}
 use Rattle.config.specs.Limits.{members, most_deposits}
-use Rattle.config.specs.Codes.{number_of, is_done}
+use Rattle.config.specs.Codes.{is_done}
 use Rattle.config.specs.Answers as answer
 use Rattle.config.specs.declared.Commit.{Commit}
 use Rattle.wire.specs.Numbers.{be_from, be_number, be_bytes}
@@ -41,7 +41,7 @@ use Rattle.contract.specs.State.{good_contract, fresh_contract, place_of, good_t
 use Rattle.contract.specs.Calls.{answer_of, after_report, after_old, after_range, refusal_of, earning_all, paying, accepting, with_ledger, deposit_answer, withdraw_answer, submitted_of, deposited_of, withdrawn_of}
 use Rattle.contract.specs.History.{Call, submits, deposits, withdraws, after, run, pays_in, pays_out, paid_in, payments}
 use Rattle.contract.specs.Claims.{DepositsAddUp, RecordsTheHistory, Recorded, OneResult, RefusalChangesNothing, FreshIsGood, GoodStaysGood, RefusedIsNoContract, answered, Accepted, AcceptedPassed, AcceptedMedianIsBetweenGood, DoneSetsTheCommit, NotOlder, CommitOnlyRises, TermsStay, ExactFees, FeesOutOfTheFund, PaysTheBalance, WithdrawalPaysTheBalance}
-use Rattle.contract.proofs.Facts.{terms_facts, contract_facts, good_contract_lem, deposit_passed, withdraw_passed, place_within, submit_passed}
+use Rattle.contract.proofs.Facts.{contract_facts, good_contract_lem, deposit_passed, withdraw_place, submit_passed}
 use Rattle.contract.proofs.Fees.{listed_in, fund_all}
 use Rattle.contract.proofs.Moves.{Moved, moved_none, moved_then, deposit_moved, withdraw_moved, submit_ready, ready_listed, submit_moved}
 use Rattle.contract.proofs.Shares.{earn_share, earn_all_share, earn_all_paid}
@@ -243,9 +243,7 @@ fees_out_of_the_fund c body transmitter time bits long h =
 pub withdrawal_pays_the_balance : WithdrawalPaysTheBalance
 unfolding withdrawn_of withdrawing
 withdrawal_pays_the_balance c member long h =
-    let p = withdraw_passed c member h in
-    let g = terms_facts c.terms (contract_facts c p.0).terms in
-    let k = place_within c.terms.n c.terms.f member g.members p.1 in
+    let k = withdraw_place c member h in
     let accounts = c.ledger.accounts in
     let after = emptied (account_at accounts (place_of member)) in
     record {
@@ -270,15 +268,15 @@ abbrev history : List Call
 history = deposits 100 ∷ deposits most_deposits ∷ withdraws 4 ∷ withdraws 5 ∷ []
 
 history_answers : let c = run (fresh_contract four) history in (c.ledger.deposits ≡ 100) × ((deposited_of c most_deposits).answer ≡ answer.Range) × ((withdrawn_of c 4).answer ≡ answer.Done) × ((withdrawn_of c 5).answer ≡ answer.Sender)
-unfolding run deposited_of deposit_answer withdrawn_of withdraw_answer withdrawing good_contract good_terms covered balances paid_out number_of
+unfolding run deposited_of deposit_answer withdrawn_of withdraw_answer withdrawing good_contract good_terms covered balances paid_out
 history_answers = (refl, refl, refl, refl)
 
 hundred_adds_up : let c = run (fresh_contract four) history in 100 ≡ c.ledger.fund + balances c.ledger.accounts + payments (fresh_contract four) history
-unfolding paid_in run deposited_of deposit_answer withdrawn_of withdraw_answer withdrawing good_contract good_terms covered balances paid_out number_of
+unfolding paid_in run deposited_of deposit_answer withdrawn_of withdraw_answer withdrawing good_contract good_terms covered balances paid_out
 hundred_adds_up = deposits_add_up four history
 
 hundred_good : good_contract (run (fresh_contract four) history) ≡ true
-unfolding run deposited_of deposit_answer withdrawn_of withdraw_answer withdrawing good_contract good_terms covered balances paid_out number_of
+unfolding run deposited_of deposit_answer withdrawn_of withdraw_answer withdrawing good_contract good_terms covered balances paid_out
 hundred_good = refl
 
 -- a report of 100, 105 and 9000 by members 1, 2 and 3, signed by 1 and 2, for epoch 7, round 1
@@ -293,7 +291,7 @@ three =
 
 -- member 1 submits it at time 5: it is accepted, 105 is published, and the fees are paid; a second time it is old
 three_accepted : let c = submitted_of (run (fresh_contract four) history) (attested_bytes three) 1 5 3 in (c.answer ≡ answer.Done) × (c.contract.commit.median ≡ pos 105) × (c.contract.ledger.fund ≡ 91) × ((submitted_of c.contract (attested_bytes three) 1 6 3).answer ≡ answer.Old)
-unfolding run deposited_of deposit_answer withdrawn_of withdraw_answer withdrawing good_contract good_terms covered balances paid_out number_of submitted_of refusal_of after_range after_old after_report accepting paying earning_all earning attested_bytes head_bytes counted_bytes flat observation_bytes signer_bytes be_bytes be_number be_from entries body_answer body_length shape_of table message_of all_members attested_fault list_fault signers_fault repeat_fault bits_fault not_falling first_at
+unfolding run deposited_of deposit_answer withdrawn_of withdraw_answer withdrawing good_contract good_terms covered balances paid_out submitted_of refusal_of after_range after_old after_report accepting paying earning_all earning attested_bytes head_bytes counted_bytes flat observation_bytes signer_bytes be_bytes be_number be_from entries body_answer body_length shape_of table message_of all_members attested_fault list_fault signers_fault repeat_fault bits_fault not_falling first_at
 three_accepted = (refl, refl, refl, refl)
 
 -- ---- an instance of each claim
@@ -317,11 +315,9 @@ history_terms : before.terms ≡ four
 history_terms = terms_stay (fresh_contract four) history
 
 five_paid_nothing : ((withdrawn_of before 5).contract ≡ before) × ((withdrawn_of before 5).amount ≡ 0)
-unfolding number_of
 five_paid_nothing = (refusal_changes_nothing before).withdraw 5 (ap is_done history_answers.3)
 
 three_done : is_done (submitted_of before (attested_bytes three) 1 5 3).answer ≡ true
-unfolding number_of
 three_done = ap is_done three_accepted.0
 
 three_passed : Accepted before (attested_bytes three) 3
@@ -352,20 +348,20 @@ later_good = good_stays_good before (submits (attested_bytes three) 1 5 3) befor
 
 -- member 1 observed and sent it, member 4 did neither
 later_balances : ((account_at later.ledger.accounts (place_of 1)).balance ≡ 5) × ((account_at later.ledger.accounts (place_of 4)).balance ≡ 0)
-unfolding run deposited_of deposit_answer withdrawn_of withdraw_answer withdrawing good_contract good_terms covered balances paid_out number_of attested_bytes head_bytes counted_bytes flat observation_bytes signer_bytes be_bytes be_number be_from entries shape_of table
+unfolding run deposited_of deposit_answer withdrawn_of withdraw_answer withdrawing good_contract good_terms covered balances paid_out attested_bytes head_bytes counted_bytes flat observation_bytes signer_bytes be_bytes be_number be_from entries shape_of table
 later_balances =
     (exact_fees before (attested_bytes three) 1 5 3 1 before_long (omega arith) (omega arith) three_done, exact_fees before (attested_bytes three) 1 5 3 4 before_long (omega arith) (omega arith) three_done)
 
 -- three observations and the sending cost 9 of the 100, and nobody is paid yet
 later_fund : (later.ledger.fund + 9 ≡ 100) × (later.ledger.deposits ≡ 100) × ((account_at later.ledger.accounts (place_of 1)).paid ≡ 0)
-unfolding run deposited_of deposit_answer withdrawn_of withdraw_answer withdrawing good_contract good_terms covered balances paid_out number_of attested_bytes head_bytes counted_bytes flat observation_bytes signer_bytes be_bytes be_number be_from entries shape_of table
+unfolding run deposited_of deposit_answer withdrawn_of withdraw_answer withdrawing good_contract good_terms covered balances paid_out attested_bytes head_bytes counted_bytes flat observation_bytes signer_bytes be_bytes be_number be_from entries shape_of table
 later_fund =
     let o = fees_out_of_the_fund before (attested_bytes three) 1 5 3 before_long three_done in
     (o.fund, o.deposits, o.paid (place_of 1))
 
 -- member 1 is paid its 5, and the others keep theirs
 later_withdraws : is_done (withdrawn_of later 1).answer ≡ true
-unfolding run deposited_of deposit_answer withdrawn_of withdraw_answer withdrawing good_contract good_terms covered balances paid_out number_of submitted_of refusal_of after_range after_old after_report accepting paying earning_all earning attested_bytes head_bytes counted_bytes flat observation_bytes signer_bytes be_bytes be_number be_from entries body_answer body_length shape_of table message_of all_members attested_fault list_fault signers_fault repeat_fault bits_fault not_falling first_at
+unfolding run deposited_of deposit_answer withdrawn_of withdraw_answer withdrawing good_contract good_terms covered balances paid_out submitted_of refusal_of after_range after_old after_report accepting paying earning_all earning attested_bytes head_bytes counted_bytes flat observation_bytes signer_bytes be_bytes be_number be_from entries body_answer body_length shape_of table message_of all_members attested_fault list_fault signers_fault repeat_fault bits_fault not_falling first_at
 later_withdraws = refl
 
 later_pays : PaysTheBalance later 1

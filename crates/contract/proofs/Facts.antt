@@ -1,7 +1,7 @@
 -- What the checks of terms, states and calls tell, as plain facts for whoever passed them.
-use mathlib.Core.Bool.{Bool, true, false, not, cond, ◌&&◌, false≢true}
+use mathlib.Core.Bool.{true, false, not, cond, ◌&&◌, false≢true}
 use mathlib.Core.List.{List}
-use mathlib.Core.Path.{◌≡◌, refl, sym, ◌∙◌}
+use mathlib.Core.Path.{◌≡◌, refl, sym, ap, ◌∙◌}
 use Prim.Native.Nat.{ℕ, ◌+◌, ◌≤◌, ◌<◌}
 use native.Mathlib.Omega.{arith}
 use borrow.Author.Tests.{leb-true, le-leb, ltb-false, not-false}
@@ -29,7 +29,8 @@ use Rattle.report.specs.Faults.{Standing, Nothing}
 use Rattle.report.specs.Stands.{attested_fault}
 use Rattle.report.specs.Newer.{newer}
 use Rattle.report.proofs.Faults.{wrong_code}
-use Rattle.contract.specs.declared.Rejection.TheVariants.{Plain}
+use Rattle.contract.specs.declared.Rejection.{Rejection}
+use Rattle.contract.specs.declared.Rejection.TheVariants.{Plain, Wrong}
 use Rattle.contract.specs.Payable.{Payable}
 use Rattle.contract.specs.Calls.{cost, Checked, answer_of, after_report, unless_wrong, after_old, after_range, unless_refused, refusal_of, deposit_answer, withdraw_answer}
 
@@ -92,16 +93,12 @@ deposit_room c amount h =
     let g = contract_facts c p.0 in
     (omega arith, omega arith)
 
--- a member's place is one of the accounts'
-pub place_within : (n f member : ℕ) → Members n f → Own n member → place_of member < members
-place_within n f member h o = omega arith
-
--- whose balance a withdrawal pays
+-- a withdrawal pays the balance of one of the accounts
 pub withdraw_place : (c : Contract) (member : ℕ) → is_done (withdraw_answer c member) ≡ true → (1 ≤ member) × (place_of member < members)
 withdraw_place c member h =
     let p = withdraw_passed c member h in
     let t = terms_facts c.terms (contract_facts c p.0).terms in
-    (p.1.some, place_within c.terms.n c.terms.f member t.members p.1)
+    (p.1.some, omega arith)
 
 -- ---- submissions
 
@@ -122,10 +119,15 @@ pub record RangePassed (c : Contract) (a : Attested) (transmitter bits : ℕ) : 
   pub stands : attested_fault c.terms.f bits a ≡ Nothing
   pub report : ReportPassed c (length a.list) transmitter
 
+-- what is rejected is answered with another code than DONE
+pub rejected_answer : (x : Rejection) → is_done (answer_of (Err x)) ≡ false
+rejected_answer (Plain r) = refl
+rejected_answer (Wrong x) = wrong_code x
+
 -- what a check hands on unless it passes, and the checks after it
 fault_passed : (x : Standing) (later : Checked) → is_done (answer_of (unless_wrong x later)) ≡ true → (x ≡ Nothing) × (is_done (answer_of later) ≡ true)
 fault_passed (Ok tt) later h = (refl, h)
-fault_passed (Err x) later h = absurd (false≢true (sym (wrong_code x) ∙ h))
+fault_passed (Err x) later h = absurd (false≢true (sym (rejected_answer (Wrong x)) ∙ h))
 
 refused_passed : (said : Answer) (later : Checked) → is_done (answer_of (unless_refused said later)) ≡ true → (said ≡ answer.Done) × (is_done (answer_of later) ≡ true)
 refused_passed (Ok tt) later h = (refl, h)
@@ -154,9 +156,9 @@ submit_passed c body transmitter time bits h =
     record { good = not-false _ p.0; body_good = q.0; time_good = not-false _ r.0; range = range_passed c (attested_in body) transmitter bits r.1 }
 
 -- what they leave to the payment
-pub submit_payable : (c : Contract) (body : List ℕ) (transmitter time bits : ℕ) → is_done (answer_of (refusal_of c body transmitter time bits)) ≡ true → Payable c transmitter body
-submit_payable c body transmitter time bits h =
-    let p = submit_passed c body transmitter time bits h in
+pub submit_payable : (c : Contract) (body : List ℕ) (transmitter time bits : ℕ) → refusal_of c body transmitter time bits ≡ Ok tt → Payable c transmitter body
+submit_payable c body transmitter time bits e =
+    let p = submit_passed c body transmitter time bits (ap (λ (x : Checked). is_done (answer_of x)) e) in
     let t = terms_facts c.terms (contract_facts c p.good).terms in
     let costs : cost c.terms (count_in body) ≤ c.ledger.fund = rw (length_entries observation_at (shape_of 6).entry (count_in body) (drop list_place body)) at p.range.report.fund in
     record {

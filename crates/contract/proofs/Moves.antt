@@ -6,15 +6,13 @@ use Prim.Native.Nat.{ℕ, suc, ◌+◌, ◌*◌, ◌≤◌, ◌<◌}
 use native.Mathlib.Nat.{suc-mul}
 use native.Mathlib.Omega.{arith}
 use borrow.Author.Tests.{le-leb}
-use lib.ListN.{length, get_or, drop, length-set, get_or-map}
+use lib.ListN.{length, get_or, drop, length-set}
 use Rattle.config.specs.Limits.{members, most_deposits}
 use Rattle.config.specs.Codes.{is_done}
 use Rattle.config.proofs.Facts.{Own}
-use Rattle.frame.specs.Message.{Observation, no_observation}
 use Rattle.frame.specs.Table.{shape_of}
-use Rattle.frame.specs.Decode.{count_in, list_place, observation_at, observations_in, attested_in}
+use Rattle.frame.specs.Decode.{count_in, list_place, observation_at, attested_in}
 use Rattle.frame.proofs.Ranges.{OneTo}
-use Rattle.frame.proofs.Checked.{CheckedFinal, checked_final}
 use Rattle.frame.proofs.Entries.{length_entries}
 use Rattle.ledger.specs.declared.Ledger.{Ledger}
 use Rattle.ledger.specs.Ledger.{credited, emptied, account_at, paid_out, owed, covered, depositing, earning, withdrawing}
@@ -24,7 +22,8 @@ use Rattle.ledger.proofs.Claims.{nothing_is_lost}
 use Rattle.contract.specs.declared.Contract.{Contract}
 use Rattle.contract.specs.State.{place_of}
 use Rattle.contract.specs.Calls.{answer_of, refusal_of, withdraw_answer, earning_all, paying}
-use Rattle.contract.proofs.Facts.{ContractGood, terms_facts, contract_facts, withdraw_passed, place_within, submit_passed}
+use Rattle.contract.proofs.Facts.{ContractGood, terms_facts, contract_facts, withdraw_passed, withdraw_place, submit_passed}
+use Rattle.contract.proofs.Bodies.{listed_each}
 use Rattle.contract.proofs.Fees.{listed_in, listed_count, fund_all}
 
 -- a ledger, and what it has become once so much was paid in and so much out
@@ -72,19 +71,9 @@ deposit_moved l amount = record { deposits = refl; owed_too = omega arith; paid 
 
 pub withdraw_moved : (c : Contract) (member : ℕ) → length c.ledger.accounts ≡ members → is_done (withdraw_answer c member) ≡ true → Moved c.ledger (withdrawing c.ledger (place_of member)) 0 (account_at c.ledger.accounts (place_of member)).balance
 withdraw_moved c member long h =
-    let p = withdraw_passed c member h in
-    let g = contract_facts c p.0 in
-    let t = terms_facts c.terms g.terms in
-    let k = place_within c.terms.n c.terms.f member t.members p.1 in
+    let g = contract_facts c (withdraw_passed c member h).0 in
+    let k = withdraw_place c member h in
     moved_withdraw c.ledger (place_of member) g.deposits g.covers (omega arith)
-
--- the members of a body in range
-listed_each : (n : ℕ) (body : List ℕ) → CheckedFinal n body → (i : ℕ) → i < length (listed_in body) → OneTo n (get_or (listed_in body) i 0)
-listed_each n body f i k =
-    let long = listed_count body in
-    let e = get_or-map (λ (o : Observation). o.member) (observations_in (shape_of 6).entry body) i no_observation in
-    let o = f.list.each i (omega arith) in
-    record { least = rw e o.least; most = rw e o.most }
 
 -- what an accepted report leaves to the payment of its fees
 pub record Ready (c : Contract) (listed : List ℕ) (transmitter : ℕ) : Type 0 where
@@ -104,7 +93,7 @@ submit_ready c body transmitter time bits long h =
     record {
       good = g;
       few = omega arith;
-      each = listed_each c.terms.n body (checked_final c.terms.n body p.body_good);
+      each = listed_each c.terms.n body p.body_good;
       own = p.range.report.own;
       fund = omega (arith, p.range.report.fund);
     }

@@ -156,21 +156,18 @@ impl Contract {
     }
 
     // A member submits a FINAL body, at a time, with verdict bits of its signers.
-    #[tactic(auto, using(crate::proofs::Facts::submit_payable), unfolding(crate::specs::Calls::submitted_of))]
+    #[tactic(auto, using(crate::proofs::Facts::submit_payable, crate::proofs::Facts::rejected_answer), unfolding(crate::specs::Calls::submitted_of))]
     pub fn submit(self, body: &[u8], transmitter: u8, time: u64, bits: u64) -> Submitted
         ensures { result ≡ submitted_of self body.now transmitter time bits }
     {
         let checked = self.check(body, transmitter, time, bits);
-        let answer = answer_of(checked);
-        let fault = fault_of(checked);
-        let contract = if answer.is_ok() {
-            self.accepted(body, transmitter, time)
-        } else {
-            self
+        let contract = match checked {
+            Ok(()) => self.accepted(body, transmitter, time),
+            Err(_) => self,
         };
         Submitted {
-            answer,
-            fault,
+            answer: checked.map_err(Refusal::from),
+            fault: fault_of(checked),
             contract,
         }
     }
@@ -319,14 +316,6 @@ fn place_of(member: u8) -> usize
     member as usize - 1
 }
 
-// What a submission is answered.
-fn answer_of(checked: Checked) -> Answer
-    ensures { result ≡ answer_of checked }
-{
-    checked?;
-    Ok(())
-}
-
 // What is told to be wrong with its report.
 fn fault_of(checked: Checked) -> Standing
     ensures { result ≡ fault_of checked }
@@ -348,7 +337,7 @@ fn paid(terms: Terms, ledger: Ledger, body: &[u8], transmitter: u8) -> Ledger
 }
 
 // The ledger after each listed member has earned the observation fee. The turns alter one local: `Ledger::earn` would copy the ledger for each member.
-#[tactic(auto, using(report::proofs::Whole::report_head, crate::proofs::Bodies::whole_report, crate::proofs::Bodies::listed_entry, crate::proofs::Bodies::listed_member, crate::proofs::Fees::fees_next, crate::proofs::Fees::listed_count, crate::proofs::Fees::earn_next, crate::proofs::Fees::earn_end), unfolding(crate::specs::Calls::earning_all))]
+#[tactic(auto, using(report::proofs::Whole::report_head, crate::proofs::Bodies::whole_report, crate::proofs::Bodies::listed_entry, crate::proofs::Fees::listed_count, crate::proofs::Fees::earn_end))]
 fn paid_all(terms: Terms, ledger: Ledger, body: &[u8]) -> Ledger
     requires { CoversAll terms ledger body.now }
     ensures { result ≡ earning_all ledger (members_of (attested_in body.now).list) terms.observation_fee }

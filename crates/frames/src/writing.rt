@@ -1,11 +1,11 @@
 // Cases that write a frame: the outbox after the writer of the frame's kind has filled it. Nothing is printed for a case that the writer
-// could not take: each `put_..` tests what its writer requires, and answers the length of the frame, or 0 where it wrote none.
+// could not take: each `put_..` tests what its writer requires, and answers the length of the frame, if it wrote one.
 ghost use Rattle.std.specs.Prelude.{◌≡◌, ◌+◌, ◌*◌, ◌≤◌, length};
 ghost use Rattle.frame.specs.Table.{trailer_length};
 ghost use Rattle.frame.specs.Range.{all_members};
 
 use config::Config;
-use frame::{Kind, NoKind};
+use frame::Kind;
 use std::io;
 use std::io::Print;
 
@@ -47,18 +47,17 @@ pub fn write<R: Print>(rt: &R, case: &[u8]) -> io::Result<()> {
         schedule,
     );
     let mut outbox = [BLANK; OUTBOX];
-    let n = put(&mut outbox, at, config, case[1], &case[SAID..]);
-    show_outbox(rt, &outbox, at, n)
+    match put(&mut outbox, at, config, case[1], &case[SAID..]) {
+        Some(n) => show_outbox(rt, &outbox, at, n),
+        None => Ok(()),
+    }
 }
 
-// The outbox up to a few bytes behind the frame of n bytes at a position, where there is one.
+// The outbox up to a few bytes behind the frame of n bytes at a position, where it has so many.
 fn show_outbox<R: Print>(rt: &R, outbox: &[u8], at: usize, n: usize) -> io::Result<()>
     requires { at + trailer_length ≤ length outbox.now }
 {
     let left = outbox.len() - at - BEHIND;
-    if n == 0 {
-        return Ok(());
-    }
     if left < n {
         return Ok(());
     }
@@ -66,77 +65,76 @@ fn show_outbox<R: Print>(rt: &R, outbox: &[u8], at: usize, n: usize) -> io::Resu
 }
 
 // By the kind; nothing where it is none.
-fn put(outbox: &mut [u8], at: usize, config: Config, kind: u8, said: &[u8]) -> usize
+fn put(outbox: &mut [u8], at: usize, config: Config, kind: u8, said: &[u8]) -> Option<usize>
     requires { at + trailer_length ≤ length outbox.old }
 {
-    match Kind::try_from(kind) {
-        Ok(Kind::NewEpoch) => put_newepoch(outbox, at, config, said),
-        Ok(Kind::ObserveReq) => put_observe_req(outbox, at, config, said),
-        Ok(Kind::Observe) => put_observe(outbox, at, config, said),
-        Ok(Kind::ReportReq) => put_report_req(outbox, at, config, said),
-        Ok(Kind::Report) => put_report(outbox, at, config, said),
-        Ok(Kind::Final) => put_final(outbox, at, config, said),
-        Ok(Kind::FinalEcho) => put_final_echo(outbox, at, config, said),
-        Err(NoKind) => 0,
+    match Kind::try_from(kind).ok()? {
+        Kind::NewEpoch => put_newepoch(outbox, at, config, said),
+        Kind::ObserveReq => put_observe_req(outbox, at, config, said),
+        Kind::Observe => put_observe(outbox, at, config, said),
+        Kind::ReportReq => put_report_req(outbox, at, config, said),
+        Kind::Report => put_report(outbox, at, config, said),
+        Kind::Final => put_final(outbox, at, config, said),
+        Kind::FinalEcho => put_final_echo(outbox, at, config, said),
     }
 }
 
 // Epoch.
-fn put_newepoch(outbox: &mut [u8], at: usize, config: Config, said: &[u8]) -> usize
+fn put_newepoch(outbox: &mut [u8], at: usize, config: Config, said: &[u8]) -> Option<usize>
     requires { at + trailer_length ≤ length outbox.old }
 {
     if said.len() != 4 {
-        return 0;
+        return None;
     }
     if space(outbox.len(), at) < frame::body_length(Kind::NewEpoch, 0, 0) {
-        return 0;
+        return None;
     }
-    outbox::write_newepoch(outbox, at, config, wire::read::<u32>(said, 0))
+    Some(outbox::write_newepoch(outbox, at, config, wire::read::<u32>(said, 0)))
 }
 
 // Epoch, round.
-fn put_observe_req(outbox: &mut [u8], at: usize, config: Config, said: &[u8]) -> usize
+fn put_observe_req(outbox: &mut [u8], at: usize, config: Config, said: &[u8]) -> Option<usize>
     requires { at + trailer_length ≤ length outbox.old }
 {
     if said.len() != 5 {
-        return 0;
+        return None;
     }
     if space(outbox.len(), at) < frame::body_length(Kind::ObserveReq, 0, 0) {
-        return 0;
+        return None;
     }
-    outbox::write_observe_req(outbox, at, config, wire::read::<u32>(said, 0), said[4])
+    Some(outbox::write_observe_req(outbox, at, config, wire::read::<u32>(said, 0), said[4]))
 }
 
 // Epoch, round, value.
-fn put_observe(outbox: &mut [u8], at: usize, config: Config, said: &[u8]) -> usize
+fn put_observe(outbox: &mut [u8], at: usize, config: Config, said: &[u8]) -> Option<usize>
     requires { at + trailer_length ≤ length outbox.old }
 {
     if said.len() != 13 {
-        return 0;
+        return None;
     }
     if space(outbox.len(), at) < frame::body_length(Kind::Observe, 0, 0) {
-        return 0;
+        return None;
     }
-    outbox::write_observe(
+    Some(outbox::write_observe(
         outbox,
         at,
         config,
         wire::read::<u32>(said, 0),
         said[4],
         wire::read::<i64>(said, 5),
-    )
+    ))
 }
 
 // Epoch, round, m, the members of a list, and the tables.
-fn put_report_req(outbox: &mut [u8], at: usize, config: Config, said: &[u8]) -> usize
+fn put_report_req(outbox: &mut [u8], at: usize, config: Config, said: &[u8]) -> Option<usize>
     requires { at + trailer_length ≤ length outbox.old }
 {
     if said.len() < frame::LIST {
-        return 0;
+        return None;
     }
     let end = frame::LIST + frame::count_of(said);
     if said.len() < end {
-        return 0;
+        return None;
     }
     put_requested(
         outbox,
@@ -159,23 +157,23 @@ fn put_requested(
     round: u8,
     order: &[u8],
     tables: &[u8],
-) -> usize
+) -> Option<usize>
     requires { (at + trailer_length ≤ length outbox.old) × (length order.now ≤ 255) }
 {
     let n = config.n;
     let many = usize::from(n);
     if tables.len() != (VALUE + Config::SIGNATURE) * many {
-        return 0;
+        return None;
     }
     if space(outbox.len(), at) < frame::body_length(Kind::ReportReq, order.len(), 0) {
-        return 0;
+        return None;
     }
     if !good_members(order, n) {
-        return 0;
+        return None;
     }
     let values = values_in(tables, n);
     let start = VALUE * many;
-    outbox::write_report_req(
+    Some(outbox::write_report_req(
         outbox,
         at,
         config,
@@ -184,41 +182,41 @@ fn put_requested(
         order,
         &values,
         &tables[start..],
-    )
+    ))
 }
 
 // The body of the REPORT-REQ that is answered.
-fn put_report(outbox: &mut [u8], at: usize, config: Config, said: &[u8]) -> usize
+fn put_report(outbox: &mut [u8], at: usize, config: Config, said: &[u8]) -> Option<usize>
     requires { at + trailer_length ≤ length outbox.old }
 {
     if said.len() < frame::LIST {
-        return 0;
+        return None;
     }
     let m = frame::count_of(said);
     if said.len() != frame::body_length(Kind::ReportReq, m, 0) {
-        return 0;
+        return None;
     }
     if space(outbox.len(), at) < frame::body_length(Kind::Report, m, 0) {
-        return 0;
+        return None;
     }
-    outbox::write_report(outbox, at, config, said)
+    Some(outbox::write_report(outbox, at, config, said))
 }
 
 // Epoch, round, m, the members of the list, s, the members that signed, and the tables.
-fn put_final(outbox: &mut [u8], at: usize, config: Config, said: &[u8]) -> usize
+fn put_final(outbox: &mut [u8], at: usize, config: Config, said: &[u8]) -> Option<usize>
     requires { at + trailer_length ≤ length outbox.old }
 {
     if said.len() < frame::LIST {
-        return 0;
+        return None;
     }
     let end = frame::LIST + frame::count_of(said);
     if said.len() <= end {
-        return 0;
+        return None;
     }
     let first = end + 1;
     let last = first + usize::from(said[end]);
     if said.len() < last {
-        return 0;
+        return None;
     }
     put_attested(
         outbox,
@@ -242,23 +240,23 @@ fn put_attested(
     order: &[u8],
     signers: &[u8],
     tables: &[u8],
-) -> usize
+) -> Option<usize>
     requires { (at + trailer_length ≤ length outbox.old) × (length order.now ≤ 255) × (length signers.now ≤ 255) }
 {
     let n = config.n;
     let many = usize::from(n);
     if tables.len() != (VALUE + Config::SIGNATURE) * many {
-        return 0;
+        return None;
     }
     if space(outbox.len(), at) < frame::body_length(Kind::Final, order.len(), signers.len()) {
-        return 0;
+        return None;
     }
     if !(good_members(order, n) & good_members(signers, n)) {
-        return 0;
+        return None;
     }
     let values = values_in(tables, n);
     let start = VALUE * many;
-    outbox::write_final(
+    Some(outbox::write_final(
         outbox,
         at,
         config,
@@ -268,27 +266,27 @@ fn put_attested(
         &values,
         signers,
         &tables[start..],
-    )
+    ))
 }
 
 // The body of the FINAL that is echoed.
 #[tactic(auto, unfolding(frame::specs::Table::body_length, frame::specs::Table::shape_of, frame::specs::Table::table))]
-fn put_final_echo(outbox: &mut [u8], at: usize, config: Config, said: &[u8]) -> usize
+fn put_final_echo(outbox: &mut [u8], at: usize, config: Config, said: &[u8]) -> Option<usize>
     requires { at + trailer_length ≤ length outbox.old }
 {
     if said.len() < frame::LIST {
-        return 0;
+        return None;
     }
     if said.len() <= frame::list_end(said) {
-        return 0;
+        return None;
     }
     if said.len() != frame::final_length(said) {
-        return 0;
+        return None;
     }
     if space(outbox.len(), at) < said.len() {
-        return 0;
+        return None;
     }
-    outbox::write_final_echo(outbox, at, config, said)
+    Some(outbox::write_final_echo(outbox, at, config, said))
 }
 
 // How many bytes a body can have whose frame begins at a position of an outbox this long.

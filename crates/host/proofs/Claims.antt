@@ -9,7 +9,6 @@ use Rattle.node.specs.Calls.{restore_answer}
 use Rattle.node.specs.Claims.{Unchanged}
 use Rattle.node.proofs.Steps as node_laws
 use Rattle.node.proofs.Listed.{unarmed_changes_nothing}
-use Rattle.sender.specs.declared.Part.{Part}
 use Rattle.sender.specs.State.{fresh_sender}
 use Rattle.sender.proofs.Claims as sender_laws
 use Rattle.config.specs.Bounds.{config_of, none_empty, sum, good_feed, good_config}
@@ -27,7 +26,7 @@ use Rattle.host.specs.declared.LentSender.{LentSender}
 use Rattle.host.specs.declared.LentContract.{LentContract}
 use Rattle.host.specs.Numbers.{timer_number, transmit_number}
 use Rattle.node.specs.Event.{fired_of}
-use Rattle.host.specs.Lent.{plain_outcome, after_out, paying_outcome, with_contract}
+use Rattle.host.specs.Lent.{plain_outcome, after_out, len_of, paying_outcome, with_contract}
 use Rattle.host.specs.Calls.{restore_at, start_at, deliver_at, timer_call, timer_at, sender_fresh_at, transmit_at, timeout_at, contract_fresh_at, submit_at, deposit_at, withdraw_at}
 use Rattle.host.specs.Claims.{done, NodeStays, NodeRefusals, SenderStays, SenderRefusals, ContractStays, ContractRefusals, RefusalChangesNothing}
 
@@ -95,7 +94,7 @@ sender_refusals l slots =
           (record { sender = u.0; commit = refl; transmit = ap transmit_number u.2; len = refl }, u.1);
       timeout = λ time h.
           let u = kept.timeout time l.commit h in
-          record { sender = u.0; commit = refl; transmit = ap transmit_number u.1; len = ap (λ (p : Part). p.len) u.2 };
+          record { sender = u.0; commit = refl; transmit = ap transmit_number u.1; len = ap len_of u.2 };
     }
 
 -- ---- a contract

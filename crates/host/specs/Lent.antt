@@ -1,5 +1,7 @@
 -- What a host finds in the struct that it lent, after each kind of call: the new state, and the outcome in numbers.
 use Rattle.std.specs.Prelude.{cond, List, ℕ}
+use Rattle.std.specs.declared.option.Option.{Option}
+use Rattle.std.specs.declared.option.Option.TheVariants.{Some, None}
 use Rattle.config.specs.Answers.{Answer}
 use Rattle.config.specs.Codes.{number_of, is_done}
 use Rattle.node.specs.declared.Node.{Node}
@@ -8,14 +10,14 @@ use Rattle.node.specs.declared.Made as node
 use Rattle.node.specs.Calls.{Out}
 use Rattle.sender.specs.declared.Sender.{Sender}
 use Rattle.sender.specs.declared.Queued.{Queued}
+use Rattle.sender.specs.declared.Part.{Part}
 use Rattle.sender.specs.declared.Released.{Released}
 use Rattle.sender.specs.declared.Made as sender
 use Rattle.sender.specs.Calls.{Sent}
 use Rattle.contract.specs.declared.Contract.{Contract}
+use Rattle.contract.specs.declared.Answered.{Answered}
 use Rattle.contract.specs.declared.Submitted.{Submitted}
-use Rattle.contract.specs.declared.Deposited.{Deposited}
 use Rattle.contract.specs.declared.Withdrawn.{Withdrawn}
-use Rattle.contract.specs.declared.Made as contract
 use Rattle.host.specs.declared.NodeOutcome.{NodeOutcome}
 use Rattle.host.specs.declared.LentNode.{LentNode}
 use Rattle.host.specs.declared.SenderOutcome.{SenderOutcome}
@@ -78,10 +80,19 @@ after_transmit l q =
     with_sender l q.sender
     (record { milliseconds = milliseconds_of q.transmit; start = 0; len = 0; transmit = transmit_number q.transmit; answer = number_of q.answer })
 
+-- where a part that is handed out begins, and how long it is; both are 0 where none is
+abbrev pub start_of : Option Part → ℕ
+start_of None = 0
+start_of (Some p) = p.start
+
+abbrev pub len_of : Option Part → ℕ
+len_of None = 0
+len_of (Some p) = p.len
+
 abbrev pub after_timeout : LentSender → Released → LentSender
 after_timeout l t =
     with_sender l t.sender
-    (record { milliseconds = milliseconds_of t.transmit; start = t.handed.start; len = t.handed.len; transmit = transmit_number t.transmit; answer = number_of t.answer })
+    (record { milliseconds = milliseconds_of t.transmit; start = start_of t.handed; len = len_of t.handed; transmit = transmit_number t.transmit; answer = number_of t.answer })
 
 abbrev pub after_sender_made : LentSender → sender.Made → LentSender
 after_sender_made l m =
@@ -113,11 +124,11 @@ after_submit s =
     with_contract s.contract
     (record { amount = 0; place = fault_place s.fault; fault = fault_number s.fault; answer = number_of s.answer })
 
-abbrev pub after_deposit : Deposited → LentContract
+abbrev pub after_deposit : Answered → LentContract
 after_deposit d = with_contract d.contract (paying_outcome d.answer 0)
 
 abbrev pub after_withdraw : Withdrawn → LentContract
 after_withdraw w = with_contract w.contract (paying_outcome w.answer w.amount)
 
-abbrev pub after_contract_made : LentContract → contract.Made → LentContract
+abbrev pub after_contract_made : LentContract → Answered → LentContract
 after_contract_made l m = with_contract (cond (is_done m.answer) m.contract l.contract) (paying_outcome m.answer 0)

@@ -7,7 +7,7 @@ ghost use Rattle.host.specs.Calls.{contract_fresh_at, submit_at, deposit_at, wit
 use crate::{ContractOutcome, LentContract};
 use config::Answer;
 use contract::Contract;
-use report::Fault;
+use report::{Fault, Standing};
 
 // A contract that nobody has paid into.
 #[unsafe(no_mangle)]
@@ -55,8 +55,7 @@ pub extern "C" fn wederburh_contract_withdraw(lent: &mut LentContract, member: u
 fn fresh_contract(lent: LentContract) -> LentContract
     ensures { result ≡ contract_fresh_at lent }
 {
-    let contract = lent.contract;
-    after_making(lent, Contract::fresh(contract.terms))
+    after_making(lent, Contract::fresh(lent.contract.terms))
 }
 
 #[tactic(auto, unfolding(crate::specs::Calls::submit_at))]
@@ -69,73 +68,72 @@ fn submit_body(
 ) -> LentContract
     ensures { result ≡ submit_at lent body.now transmitter time bits }
 {
-    let contract = lent.contract;
-    after_submit(contract.submit(body, transmitter, time, bits))
+    after_submit(lent.contract.submit(body, transmitter, time, bits))
 }
 
 #[tactic(auto, unfolding(crate::specs::Calls::deposit_at))]
 fn deposit_in(lent: LentContract, amount: u64) -> LentContract
     ensures { result ≡ deposit_at lent amount }
 {
-    let contract = lent.contract;
-    after_deposit(contract.deposit(amount))
+    after_deposit(lent.contract.deposit(amount))
 }
 
 #[tactic(auto, unfolding(crate::specs::Calls::withdraw_at))]
 fn withdraw_for(lent: LentContract, member: u8) -> LentContract
     ensures { result ≡ withdraw_at lent member }
 {
-    let contract = lent.contract;
-    after_withdraw(contract.withdraw(member))
+    after_withdraw(lent.contract.withdraw(member))
 }
 
 // What the host finds after a submission.
 fn after_submit(s: contract::Submitted) -> LentContract
     ensures { result ≡ after_submit s }
 {
-    let answer = s.answer;
-    let contract = s.contract;
     let fault = s.fault;
     let outcome = ContractOutcome {
         amount: 0,
         place: fault_place(fault),
         fault: fault_number(fault),
-        answer: answer.number(),
+        answer: config::number(s.answer),
     };
-    LentContract { contract, outcome }
+    LentContract {
+        contract: s.contract,
+        outcome,
+    }
 }
 
 // What the host finds after a deposit.
-fn after_deposit(d: contract::Deposited) -> LentContract
+fn after_deposit(d: contract::Answered) -> LentContract
     ensures { result ≡ after_deposit d }
 {
-    let answer = d.answer;
-    let contract = d.contract;
-    let outcome = paying(answer, 0);
-    LentContract { contract, outcome }
+    LentContract {
+        contract: d.contract,
+        outcome: paying(d.answer, 0),
+    }
 }
 
 // What the host finds after a withdrawal.
 fn after_withdraw(w: contract::Withdrawn) -> LentContract
     ensures { result ≡ after_withdraw w }
 {
-    let answer = w.answer;
-    let contract = w.contract;
-    let outcome = paying(answer, w.amount);
-    LentContract { contract, outcome }
+    LentContract {
+        contract: w.contract,
+        outcome: paying(w.answer, w.amount),
+    }
 }
 
 // What the host finds after a contract was made: the new one, or the one before where the terms are refused.
-fn after_making(lent: LentContract, m: contract::Made) -> LentContract
+fn after_making(lent: LentContract, m: contract::Answered) -> LentContract
     ensures { result ≡ after_contract_made lent m }
 {
     let answer = m.answer;
     let outcome = paying(answer, 0);
-    if answer.is_done() {
-        let contract = m.contract;
-        return LentContract { contract, outcome };
-    }
-    LentContract { outcome, ..lent }
+    let contract = if answer.is_ok() {
+        m.contract
+    } else {
+        lent.contract
+    };
+    LentContract { contract, outcome }
 }
 
 // An outcome that has to do with no report.
@@ -146,35 +144,31 @@ fn paying(answer: Answer, amount: u64) -> ContractOutcome
         amount,
         place: 0,
         fault: 0,
-        answer: answer.number(),
+        answer: config::number(answer),
     }
 }
 
-fn fault_number(fault: Fault) -> u8
+fn fault_number(fault: Standing) -> u8
     ensures { result ≡ fault_number fault }
 {
     match fault {
-        Fault::Nothing => 0,
-        Fault::Few => 1,
-        Fault::Falling => 2,
-        Fault::Twice => 3,
-        Fault::TooFewSigners => 4,
-        Fault::SignerTwice(_) => 5,
-        Fault::ClearBit(_) => 6,
+        Ok(()) => 0,
+        Err(Fault::Few) => 1,
+        Err(Fault::Falling) => 2,
+        Err(Fault::Twice) => 3,
+        Err(Fault::TooFewSigners) => 4,
+        Err(Fault::SignerTwice(_)) => 5,
+        Err(Fault::ClearBit(_)) => 6,
     }
 }
 
 // Which signer a fault is about, from 0; 0 where it is about none.
-fn fault_place(fault: Fault) -> usize
+fn fault_place(fault: Standing) -> usize
     ensures { result ≡ fault_place fault }
 {
     match fault {
-        Fault::Nothing => 0,
-        Fault::Few => 0,
-        Fault::Falling => 0,
-        Fault::Twice => 0,
-        Fault::TooFewSigners => 0,
-        Fault::SignerTwice(place) => place,
-        Fault::ClearBit(place) => place,
+        Err(Fault::SignerTwice(place)) => place,
+        Err(Fault::ClearBit(place)) => place,
+        _ => 0,
     }
 }

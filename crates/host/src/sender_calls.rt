@@ -83,7 +83,7 @@ impl LentSender {
             start: 0,
             len: 0,
             transmit: transmit_number(transmit),
-            answer: answer.number(),
+            answer: config::number(answer),
         };
         LentSender {
             sender,
@@ -99,13 +99,13 @@ impl LentSender {
         let answer = t.answer;
         let sender = t.sender;
         let transmit = t.transmit;
-        let handed = t.handed;
+        let (start, len) = t.handed.map_or((0, 0), |part| (part.start, part.len));
         let outcome = SenderOutcome {
             milliseconds: milliseconds_of(transmit),
-            start: handed.start,
-            len: handed.len,
+            start,
+            len,
             transmit: transmit_number(transmit),
-            answer: answer.number(),
+            answer: config::number(answer),
         };
         LentSender {
             sender,
@@ -124,9 +124,9 @@ impl LentSender {
             start: 0,
             len: 0,
             transmit: 0,
-            answer: answer.number(),
+            answer: config::number(answer),
         };
-        if answer.is_done() {
+        if answer.is_ok() {
             let sender = m.sender;
             return LentSender {
                 sender,
