@@ -316,7 +316,7 @@ fn place_of(member: u8) -> usize
     member as usize - 1
 }
 
-// What is told to be wrong with its report.
+// What is told to be wrong with the report of a submission.
 fn fault_of(checked: Checked) -> Standing
     ensures { result ≡ fault_of checked }
 {
@@ -336,18 +336,17 @@ fn paid(terms: Terms, ledger: Ledger, body: &[u8], transmitter: u8) -> Ledger
     all.earn(place_of(transmitter), terms.sending_fee)
 }
 
-// The ledger after each listed member has earned the observation fee. The turns alter one local: `Ledger::earn` would copy the ledger for each member.
+// The ledger after each listed member has earned the observation fee. The turns alter one ledger: `Ledger::earn` would copy it for each member.
 #[tactic(auto, using(report::proofs::Whole::report_head, crate::proofs::Bodies::whole_report, crate::proofs::Bodies::listed_entry, crate::proofs::Fees::listed_count, crate::proofs::Fees::earn_end))]
-fn paid_all(terms: Terms, ledger: Ledger, body: &[u8]) -> Ledger
+fn paid_all(terms: Terms, mut ledger: Ledger, body: &[u8]) -> Ledger
     requires { CoversAll terms ledger body.now }
     ensures { result ≡ earning_all ledger (members_of (attested_in body.now).list) terms.observation_fee }
 {
     let stride = frame::stride(Kind::Final);
-    let mut l = ledger;
     for i in 0..frame::count_of(body) {
         let place = place_of(frame::member_at(body, stride, i));
-        l.fund -= terms.observation_fee;
-        l.accounts[place].credit(terms.observation_fee);
+        ledger.fund -= terms.observation_fee;
+        ledger.accounts[place].credit(terms.observation_fee);
     }
-    l
+    ledger
 }

@@ -1,5 +1,5 @@
 -- A refusal changes nothing: what node, sender and contract claim of their calls by value, carried to the lent structs; and instances that compute.
-use Rattle.std.proofs.Common.{◌≡◌, ℕ, false, ltb, List, [], ◌∷◌, pos, refl, ap}
+use Rattle.std.proofs.Common.{◌≡◌, ℕ, false, ltb, List, [], ◌∷◌, pos, refl, ap, ◌∙◌}
 use Rattle.node.specs.declared.Timers.{Timers}
 use Rattle.node.specs.State.{restored_node, nothing_saved}
 use Rattle.node.specs.Event.{Event, whole, delivery, starts, delivers, fires}
@@ -11,6 +11,7 @@ use Rattle.node.proofs.Steps as node_laws
 use Rattle.node.proofs.Listed.{unarmed_changes_nothing}
 use Rattle.sender.specs.State.{fresh_sender}
 use Rattle.sender.proofs.Claims as sender_laws
+use Rattle.config.proofs.Facts.{done_zero}
 use Rattle.config.specs.Bounds.{config_of, none_empty, sum, good_feed, good_config}
 use Rattle.config.specs.Codes.{number_of}
 use Rattle.config.specs.declared.Config.{Config}
@@ -59,7 +60,7 @@ Keeps l outbox kept signatures o = done (after_out l o).lent.outcome.answer ≡ 
 
 event_keeps : (l : LentNode) (e : Event) (outbox : List ℕ) (at : ℕ) (kept signatures : List ℕ) → Keeps l outbox kept signatures (node.call_of l.node e outbox at kept signatures)
 event_keeps l e outbox at kept signatures h =
-    stays l outbox kept signatures _ (node_laws.refusal_changes_nothing (whole l.node kept signatures) e outbox at h)
+    stays l outbox kept signatures _ (node_laws.refusal_changes_nothing (whole l.node kept signatures) e outbox at (done_zero _ ∙ h))
 
 unarmed_keeps : (l : LentNode) (time : ℕ) (outbox : List ℕ) (at : ℕ) (kept signatures : List ℕ) → Keeps l outbox kept signatures (node.unarmed_of l.node time outbox at kept signatures)
 unarmed_keeps l time outbox at kept signatures h =
@@ -75,7 +76,7 @@ node_refusals : (l : LentNode) (outbox : List ℕ) (at : ℕ) (kept signatures :
 unfolding restore_at start_at deliver_at timer_at
 node_refusals l outbox at kept signatures =
     record {
-      restore = λ epoch highest h. (rw h, refl, refl, record { written = refl; len = refl; resend = refl; progress = refl; round = refl; grace = refl });
+      restore = λ epoch highest h. (rw (done_zero _ ∙ h), refl, refl, record { written = refl; len = refl; resend = refl; progress = refl; round = refl; grace = refl });
       start = λ time. event_keeps l (starts time) outbox at kept signatures;
       deliver = λ link time bits frame. event_keeps l (delivers (delivery link time l.observation l.commit bits frame)) outbox at kept signatures;
       timer = λ number time. timer_keeps l number time outbox at kept signatures;
@@ -88,12 +89,12 @@ unfolding sender_fresh_at transmit_at timeout_at
 sender_refusals l slots =
     let kept = sender_laws.refusal_changes_nothing (record { sender = l.sender; slots = slots }) in
     record {
-      fresh = λ h. record { sender = rw h; commit = refl; transmit = refl; len = refl };
+      fresh = λ h. record { sender = rw (done_zero _ ∙ h); commit = refl; transmit = refl; len = refl };
       transmit = λ body time permutation h.
-          let u = kept.transmit body time l.commit permutation h in
+          let u = kept.transmit body time l.commit permutation (done_zero _ ∙ h) in
           (record { sender = u.0; commit = refl; transmit = ap transmit_number u.2; len = refl }, u.1);
       timeout = λ time h.
-          let u = kept.timeout time l.commit h in
+          let u = kept.timeout time l.commit (done_zero _ ∙ h) in
           record { sender = u.0; commit = refl; transmit = ap transmit_number u.1; len = ap len_of u.2 };
     }
 
@@ -104,10 +105,10 @@ unfolding contract_fresh_at submit_at deposit_at withdraw_at
 contract_refusals l =
     let kept = contract_laws.refusal_changes_nothing l.contract in
     record {
-      fresh = λ h. record { contract = rw h; amount = refl };
-      submit = λ body transmitter time bits h. record { contract = kept.submit body transmitter time bits h; amount = refl };
-      deposit = λ amount h. record { contract = kept.deposit amount h; amount = refl };
-      withdraw = λ member h. let u = kept.withdraw member h in record { contract = u.0; amount = u.1 };
+      fresh = λ h. record { contract = rw (done_zero _ ∙ h); amount = refl };
+      submit = λ body transmitter time bits h. record { contract = kept.submit body transmitter time bits (done_zero _ ∙ h); amount = refl };
+      deposit = λ amount h. record { contract = kept.deposit amount (done_zero _ ∙ h); amount = refl };
+      withdraw = λ member h. let u = kept.withdraw member (done_zero _ ∙ h) in record { contract = u.0; amount = u.1 };
     }
 
 pub refusal_changes_nothing : RefusalChangesNothing

@@ -2,7 +2,6 @@
 #![tactic(auto)]
 
 ghost use Rattle.std.specs.Prelude.{◌≡◌, ◌≤◌, ◌<◌, length, Err};
-ghost use Rattle.std.specs.Int.Signed.{lt_z};
 ghost use Rattle.config.specs.Limits.{members, kept_size};
 ghost use Rattle.price.specs.Median.{median_of};
 ghost use Rattle.frame.specs.Decode.{count_in, observations_in, signers_in, attested_in};
@@ -96,13 +95,6 @@ fn not_falling(body: &[u8], stride: usize) -> bool
         }
     }
     true
-}
-
-// Whether one value is below another.
-pub fn below(v: i64, w: i64) -> bool
-    ensures { result ≡ lt_z v w }
-{
-    v < w
 }
 
 // Check 17 of the report in a body.

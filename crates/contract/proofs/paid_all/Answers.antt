@@ -22,8 +22,8 @@ ranged c =
 pub place_of-place-requires : goal.place_of-place-requires
 place_of-place-requires c = (ranged (goal.at.place_of-place-requires c).After-member_at).0
 
-pub bounds-l-place : goal.bounds-l-place
-bounds-l-place c = let r = ranged (goal.at.bounds-l-place c).After-member_at in omega (arith, c.place_of-place.ensures)
+pub bounds-ledger-place : goal.bounds-ledger-place
+bounds-ledger-place c = let r = ranged (goal.at.bounds-ledger-place c).After-member_at in omega (arith, c.place_of-place.ensures)
 
 pub loop-i-preserved : goal.loop-i-preserved
 unfolding earning
@@ -37,5 +37,5 @@ loop-i-preserved c =
     record {
       funded = omega (arith, c.loop-i.invariant.funded);
       same = rw (c.credit.ensures, c.place_of-place.ensures)
-          (earn_next c.loop-i.l (listed_in b) i fee c.member_at.result (omega arith) e ∙ c.loop-i.invariant.same);
+          (earn_next c.loop-i.ledger (listed_in b) i fee c.member_at.result (omega arith) e ∙ c.loop-i.invariant.same);
     }

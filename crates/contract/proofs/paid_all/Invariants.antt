@@ -8,6 +8,6 @@ use Rattle.contract.proofs.paid_all.Given as goal
 abbrev pub invariant-loop-i : goal.invariant-loop-i
 invariant-loop-i l =
     let fee = l.terms.observation_fee in record {
-      funded : (count_in l.body - l.i) * fee ≤ l.l.fund;
-      same : earning_all l.l (drop l.i (listed_in l.body)) fee ≡ earning_all l.initial.l (listed_in l.body) fee;
+      funded : (count_in l.body - l.i) * fee ≤ l.ledger.fund;
+      same : earning_all l.ledger (drop l.i (listed_in l.body)) fee ≡ earning_all l.initial.ledger (listed_in l.body) fee;
     }
