@@ -1,11 +1,12 @@
 // The image of a contract.
-ghost use Rattle.std.specs.Prelude.{◌+◌, ◌≤◌, length};
+ghost use Rattle.std.specs.Prelude.{◌+◌, ◌*◌, ◌≤◌, length};
 ghost use Rattle.image.specs.Image.{account_size, ledger_size, terms_size, contract_size};
 
-use crate::entries::{Entry, entries_at, put_bytes, put_entries};
+use crate::numbers::{numbers_at, put_bytes, put_numbers};
 use crate::{ACCOUNT, COMMIT, LEDGER};
 use contract::{Contract, Terms};
 use ledger::{Account, Ledger};
+use std::array;
 
 pub fn contract_at(s: &[u8], at: usize) -> Contract
     requires { at + contract_size ≤ length s.now }
@@ -31,7 +32,11 @@ fn ledger_at(s: &[u8], at: usize) -> Ledger
     Ledger {
         fund: wire::read::<u64>(s, at),
         deposits: wire::read::<u64>(s, at + 8),
-        accounts: entries_at(s, at + 16),
+        accounts: array::from_fn(
+            |i| -> Account
+                requires { at + 16 + account_size * (i + 1) ≤ length s.now }
+            { account_at(s, at + 16 + ACCOUNT * i) },
+        ),
     }
 }
 
@@ -40,25 +45,25 @@ fn put_ledger(s: &mut [u8], at: usize, ledger: Ledger)
 {
     wire::write(s, at, ledger.fund);
     wire::write(s, at + 8, ledger.deposits);
-    put_entries(s, at + 16, &ledger.accounts);
+    for (i, account) in ledger.accounts.iter().enumerate() {
+        put_account(s, at + 16 + ACCOUNT * i, *account);
+    }
 }
 
-impl Entry for Account {
-    const WIDTH: usize = ACCOUNT;
-
-    ghost WIDTH = { account_size };
-
-    fn read(s: &[u8], at: usize) -> Account {
-        Account {
-            balance: wire::read::<u64>(s, at),
-            paid: wire::read::<u64>(s, at + 8),
-        }
+fn account_at(s: &[u8], at: usize) -> Account
+    requires { at + account_size ≤ length s.now }
+{
+    Account {
+        balance: wire::read::<u64>(s, at),
+        paid: wire::read::<u64>(s, at + 8),
     }
+}
 
-    fn write(self, s: &mut [u8], at: usize) {
-        wire::write(s, at, self.balance);
-        wire::write(s, at + 8, self.paid);
-    }
+fn put_account(s: &mut [u8], at: usize, account: Account)
+    requires { at + account_size ≤ length s.old }
+{
+    wire::write(s, at, account.balance);
+    wire::write(s, at + 8, account.paid);
 }
 
 pub fn terms_at(s: &[u8], at: usize) -> Terms

@@ -3,9 +3,9 @@
 #![tactic(auto)]
 
 mod contract_image;
-mod entries;
 pub mod memory;
 mod node_parts;
+mod numbers;
 mod sender_image;
 
 ghost use Rattle.std.specs.Prelude.{◌+◌, ◌≤◌, length};
@@ -13,8 +13,8 @@ ghost use Rattle.image.specs.Image.{config_size, commit_size};
 
 use config::{Commit, Config};
 pub use contract_image::{contract_at, put_contract, terms_at};
-use entries::{bytes_at, put_bytes};
 pub use node_parts::{follower_at, leader_at, pace_at, put_follower, put_leader, put_pace};
+use numbers::{bytes_at, put_bytes};
 pub use sender_image::{put_sender, sender_at};
 
 // The bytes of each.

@@ -3,7 +3,7 @@
 ghost use Rattle.std.specs.Prelude.{◌≡◌, ◌+◌, ◌≤◌, length};
 ghost use Rattle.image.specs.Memory.{memory_size, room_of, Within};
 
-use crate::entries::put_bytes;
+use crate::numbers::put_bytes;
 
 // The room of each buffer.
 pub const OUTBOX_ROOM: usize = 8192;

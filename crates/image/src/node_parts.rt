@@ -2,7 +2,7 @@
 ghost use Rattle.std.specs.Prelude.{◌+◌, ◌≤◌, length};
 ghost use Rattle.image.specs.Image.{pace_size, follower_size, leader_size};
 
-use crate::entries::{bytes_at, entries_at, put_bytes, put_entries};
+use crate::numbers::{bytes_at, numbers_at, put_bytes, put_numbers};
 use config::Config;
 use follower::Follower;
 use leader::Leader;
@@ -15,7 +15,7 @@ pub fn pace_at(s: &[u8], at: usize) -> Pace
     Pace {
         epoch: wire::read::<u32>(s, at),
         highest: wire::read::<u32>(s, at + 4),
-        heard: entries_at(s, at + 8),
+        heard: numbers_at(s, at + 8),
         started: s[flags],
         progress: s[flags + 1],
         resend: s[flags + 2],
@@ -28,7 +28,7 @@ pub fn put_pace(s: &mut [u8], at: usize, pace: Pace)
     let flags = at + 8 + 4 * Config::MEMBERS;
     wire::write(s, at, pace.epoch);
     wire::write(s, at + 4, pace.highest);
-    put_entries(s, at + 8, &pace.heard);
+    put_numbers(s, at + 8, &pace.heard);
     put_bytes(s, flags, &[pace.started, pace.progress, pace.resend]);
 }
 
@@ -66,7 +66,7 @@ pub fn leader_at(s: &[u8], at: usize) -> Leader
     let reported = observed + Config::MEMBERS;
     let phase = reported + Config::MEMBERS;
     Leader {
-        values: entries_at(s, at),
+        values: numbers_at(s, at),
         observed: bytes_at(s, observed),
         reported: bytes_at(s, reported),
         phase: s[phase],
@@ -82,7 +82,7 @@ pub fn put_leader(s: &mut [u8], at: usize, leader: Leader)
     let observed = at + 8 * Config::MEMBERS;
     let reported = observed + Config::MEMBERS;
     let phase = reported + Config::MEMBERS;
-    put_entries(s, at, &leader.values);
+    put_numbers(s, at, &leader.values);
     put_bytes(s, observed, &leader.observed);
     put_bytes(s, reported, &leader.reported);
     put_bytes(

@@ -2,7 +2,7 @@
 ghost use Rattle.std.specs.Prelude.{◌+◌, ◌≤◌, length};
 ghost use Rattle.image.specs.Image.{accepted_size, sender_size};
 
-use crate::entries::{bytes_at, entries_at, put_bytes, put_entries};
+use crate::numbers::{bytes_at, numbers_at, put_bytes, put_numbers};
 use crate::{ACCEPTED, CONFIG};
 use config::Config;
 use sender::{Accepted, Sender};
@@ -14,7 +14,7 @@ pub fn sender_at(s: &[u8], at: usize) -> Sender
     Sender {
         config: crate::config_at(s, at),
         accepted: accepted_at(s, at + CONFIG),
-        times: entries_at(s, times),
+        times: numbers_at(s, times),
         taken: bytes_at(s, times + 8 * Config::SLOTS),
     }
 }
@@ -25,7 +25,7 @@ pub fn put_sender(s: &mut [u8], sender: Sender)
     let times = CONFIG + ACCEPTED;
     crate::put_config(s, 0, sender.config);
     put_accepted(s, CONFIG, sender.accepted);
-    put_entries(s, times, &sender.times);
+    put_numbers(s, times, &sender.times);
     put_bytes(s, times + 8 * Config::SLOTS, &sender.taken);
 }
 

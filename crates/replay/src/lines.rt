@@ -8,7 +8,7 @@ use std::io::Print;
 
 // The start of a line: the letter of the call and its code.
 pub fn begin<R: Print>(rt: &R, letter: char, answer: Answer) -> io::Result<()> {
-    let code = answer.number();
+    let code = config::number(answer);
     print!(rt; "{letter} {code}")
 }
 
@@ -53,7 +53,8 @@ pub fn transmit<R: Print>(rt: &R, transmit: Transmit) -> io::Result<()> {
     }
 }
 
-// The part of the slots that a timeout hands out.
-pub fn part<R: Print>(rt: &R, part: Part) -> io::Result<()> {
-    print!(rt; " {}+{}", part.start, part.len)
+// The part of the slots that a timeout hands out; `0+0` where none is.
+pub fn part<R: Print>(rt: &R, part: Option<Part>) -> io::Result<()> {
+    let (start, len) = part.map_or((0, 0), |part| (part.start, part.len));
+    print!(rt; " {start}+{len}")
 }

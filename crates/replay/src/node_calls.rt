@@ -3,7 +3,7 @@ use crate::{changes, lines, node_image};
 use config::Saved;
 use image::memory;
 use image::memory::{Buffer, Memory};
-use node::{Fired, Made, Node, Outcome};
+use node::{Arrival, Fired, Made, NoTimer, Node, Outcome};
 use std::io;
 use std::io::Print;
 
@@ -15,9 +15,6 @@ const START: usize = 16;
 const DELIVERY: usize = 33 + image::COMMIT;
 
 const TIMER: usize = 17;
-
-// The number of T_grace, the last of the four timers.
-const GRACE: u8 = 3;
 
 pub fn fresh<R: Print>(rt: &R, memory: &mut Memory, said: &[u8]) -> io::Result<bool> {
     if said.len() != image::CONFIG {
@@ -76,13 +73,16 @@ pub fn deliver<R: Print>(rt: &R, memory: &mut Memory, said: &[u8]) -> io::Result
     let kept = memory.copied(Buffer::Kept, &mut kept);
     let mut signatures = [0u8; memory::SIGNATURES_ROOM];
     let signatures = memory.copied(Buffer::Signatures, &mut signatures);
+    let arrival = Arrival {
+        link: said[0],
+        time: wire::read::<u64>(said, 1),
+        observation: wire::read::<i64>(said, 9),
+        commit: image::commit_at(said, 17),
+        bits: wire::read::<u64>(said, 38),
+        frame: &said[DELIVERY..],
+    };
     let outcome = held(memory).deliver(
-        said[0],
-        wire::read::<u64>(said, 1),
-        wire::read::<i64>(said, 9),
-        image::commit_at(said, 17),
-        wire::read::<u64>(said, 38),
-        &said[DELIVERY..],
+        arrival,
         outbox,
         wire::read::<u64>(said, 46) as usize,
         kept,
@@ -102,22 +102,11 @@ pub fn timer<R: Print>(rt: &R, memory: &mut Memory, said: &[u8]) -> io::Result<b
     }
     let time = wire::read::<u64>(said, 1);
     let at = wire::read::<u64>(said, 9) as usize;
-    if GRACE < said[0] {
-        unnamed(rt, memory, time, at)?;
-    } else {
-        fires(rt, memory, fired_by(said[0]), time, at)?;
+    match Fired::try_from(said[0]) {
+        Ok(fired) => fires(rt, memory, fired, time, at)?,
+        Err(NoTimer) => unnamed(rt, memory, time, at)?,
     }
     Ok(true)
-}
-
-// The four timers by their numbers.
-fn fired_by(number: u8) -> Fired {
-    match number {
-        0 => Fired::Resend,
-        1 => Fired::Progress,
-        2 => Fired::Round,
-        _ => Fired::Grace,
-    }
 }
 
 // A timer that is none of the four changes nothing, so the buffers are lent as they lie.
