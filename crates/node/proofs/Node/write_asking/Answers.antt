@@ -1,6 +1,6 @@
--- `write_asking` meets its contract: each arm is told what is asked for, and hands it to the writer of its frame.
+-- `Node::write_asking` meets its contract: each arm is told what is asked for, and hands it to the writer of its frame.
 use Rattle.node.proofs.Frames.{wrote_none, wrote_one}
-use Rattle.node.proofs.writing.write_asking.Goals as goal
+use Rattle.node.proofs.Node.write_asking.Goals as goal
 
 pub returns-in-Nothing : goal.returns-in-Nothing
 returns-in-Nothing c = rw c.in-Nothing.is wrote_none
