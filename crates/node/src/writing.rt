@@ -16,6 +16,7 @@ use frame::Kind;
 use leader::Asking;
 
 // Writes the NEWEPOCH that the pacemaker sends, if it does.
+#[tactic(auto, using(wire::proofs::Overlay::over_none), unfolding(crate::specs::Calls::frames_of))]
 pub(crate) fn write_announced(
     config: Config,
     sent: Option<u32>,
@@ -33,6 +34,7 @@ pub(crate) fn write_announced(
 
 impl Node {
     // Writes what this node's leader asks for, if it does.
+    #[tactic(auto, using(wire::proofs::Overlay::over_none), unfolding(crate::specs::Calls::frames_of))]
     pub(crate) fn write_asking(
         self,
         asking: Asking,
@@ -58,7 +60,7 @@ impl Node {
 }
 
 // Writes the follower's reply to a body, if it has one.
-#[tactic(auto, using(frame::proofs::Checked::checked_length, frame::proofs::Checked::checked_head, follower::proofs::Bodies::checked_attested), unfolding(frame::specs::Table::body_length))]
+#[tactic(auto, using(frame::proofs::Checked::checked_length, frame::proofs::Checked::checked_head, follower::proofs::Bodies::checked_attested, wire::proofs::Overlay::over_none), unfolding(frame::specs::Table::body_length, frame::specs::Decode::message_of, crate::specs::Calls::frames_of))]
 pub(crate) fn write_reply(
     config: Config,
     reply: Reply,
