@@ -26,7 +26,6 @@ use Rattle.frame.specs.Kinds.{number_of}
 use Rattle.frame.specs.Decode.{round_in, signed_in, attested_in, message_of, body_in, message_in}
 use Rattle.frame.specs.Range.{good_attested}
 use Rattle.frame.specs.Check.{body_answer}
-use Rattle.frame.proofs.Messages.{by_kind}
 use Rattle.report.specs.Stands.{values_of}
 use Rattle.report.specs.Whole.{WholeReport}
 use Rattle.report.specs.Kept.{keeping}
@@ -56,26 +55,22 @@ use Rattle.node.proofs.Frames.{settles}
 
 -- ---- what is replied
 
-echo_answers : (kind : ℕ) → kind ≡ 7 → (held : Bool) → Answers (cond held reply.Nothing reply.Echo) kind
-echo_answers kind e true = tt
-echo_answers kind e false = inr e
+echo_answers : (held : Bool) → Answers (cond held reply.Nothing reply.Echo) (number_of kind.FinalEcho)
+echo_answers true = tt
+echo_answers false = inr refl
 
-pub reply_answers : (c : Config) (s : Follower) (j time : ℕ) (commit : Commit) (kind : ℕ) (b : List ℕ) → 1 ≤ kind → kind ≤ 7 → Answers (follow_of c s j time commit (message_of kind b)).reply kind
-unfolding received
-reply_answers c s j time commit kind b low high =
-    by_kind
-    (λ (m : Message). Answers (follow_of c s j time commit m).reply kind)
-    b
-    kind
-    low
-    high
-    (λ _. tt)
-    (λ e. requested_each (λ (d : Followed). Answers d.reply kind) c s (round_in b) tt e)
-    (λ _. tt)
-    (λ e. asked_each (λ (d : Followed). Answers d.reply kind) c s time commit (median_of (values_of (map (λ (x : Signed). x.said) (signed_in b)))) e tt)
-    (λ _. tt)
-    (λ e. inl e)
-    (λ e. let p = echo_answers kind e (is_set s.kept) in echoed_each (λ (d : Followed). Answers d.reply kind) c s j p p)
+pub reply_answers : (c : Config) (s : Follower) (j time : ℕ) (commit : Commit) (k : Kind) (b : List ℕ) → Answers (follow_of c s j time commit (message_of (number_of k) b)).reply (number_of k)
+unfolding message_of received
+reply_answers c s j time commit kind.NewEpoch b = tt
+reply_answers c s j time commit kind.ObserveReq b = requested_each (λ (d : Followed). Answers d.reply (number_of kind.ObserveReq)) c s (round_in b) tt refl
+reply_answers c s j time commit kind.Observe b = tt
+reply_answers c s j time commit kind.ReportReq b =
+    asked_each (λ (d : Followed). Answers d.reply (number_of kind.ReportReq)) c s time commit (median_of (values_of (map (λ (x : Signed). x.said) (signed_in b)))) refl tt
+reply_answers c s j time commit kind.Report b = tt
+reply_answers c s j time commit kind.Final b = inl refl
+reply_answers c s j time commit kind.FinalEcho b =
+    let p = echo_answers (is_set s.kept) in
+    echoed_each (λ (d : Followed). Answers d.reply (number_of kind.FinalEcho)) c s j p p
 
 -- ---- what is raised
 
@@ -158,35 +153,25 @@ quiet e h = absurd (false≢true (sym e ∙ h))
 module _
     (c : Config)
     (s : Follower)
-    (kind : ℕ)
     (b kept : List ℕ)
-    (low : 1 ≤ kind)
-    (high : kind ≤ 7)
-    (good : body_answer c.n kind b ≡ Done)
     (most : c.n ≤ members)
     (long : kept_size ≤ length kept)
     (held : is_set s.kept ≡ true → good_attested c.n (attested_in kept) ≡ true)
   where
-    echo_whole : kind ≡ 7 → (a : Attested) (t : Bool) → is_set s.kept ≡ t → WholeReport (cond t (cond t kept (keeping kept (attested_bytes a))) b)
-    echo_whole k a true h = kept_whole c.n kept most long (held h)
-    echo_whole k a false h = whole_report c.n kind b (omega arith) high good
+    echo_whole : body_answer c.n (number_of kind.FinalEcho) b ≡ Done → (a : Attested) (t : Bool) → is_set s.kept ≡ t → WholeReport (cond t (cond t kept (keeping kept (attested_bytes a))) b)
+    echo_whole good a true h = kept_whole c.n kept most long (held h)
+    echo_whole good a false h = whole_report c.n (number_of kind.FinalEcho) b (omega arith) (omega arith) good
 
-    pub handed_whole : (j time : ℕ) (commit : Commit) → (follow_of c s j time commit (message_of kind b)).handed ≡ true → WholeReport (cond (is_set s.kept) (kept_of s kept (message_of kind b)) b)
-    unfolding received
-    handed_whole j time commit =
-        by_kind
-        (λ (m : Message). (follow_of c s j time commit m).handed ≡ true → WholeReport (cond (is_set s.kept) (kept_of s kept m) b))
-        b
-        kind
-        low
-        high
-        (λ _. quiet refl)
-        (λ _. quiet (requested_each (λ (d : Followed). d.handed ≡ false) c s (round_in b) refl refl))
-        (λ _. quiet refl)
-        (λ _. quiet (asked_each (λ (d : Followed). d.handed ≡ false) c s time commit (median_of (values_of (map (λ (x : Signed). x.said) (signed_in b)))) refl refl))
-        (λ _. quiet refl)
-        (λ _. quiet refl)
-        (λ k _. echo_whole k (attested_in b) (is_set s.kept) refl)
+    pub handed_whole : (k : Kind) → body_answer c.n (number_of k) b ≡ Done → (j time : ℕ) (commit : Commit) → (follow_of c s j time commit (message_of (number_of k) b)).handed ≡ true → WholeReport (cond (is_set s.kept) (kept_of s kept (message_of (number_of k) b)) b)
+    unfolding message_of received
+    handed_whole kind.NewEpoch good j time commit = quiet refl
+    handed_whole kind.ObserveReq good j time commit = quiet (requested_each (λ (d : Followed). d.handed ≡ false) c s (round_in b) refl refl)
+    handed_whole kind.Observe good j time commit = quiet refl
+    handed_whole kind.ReportReq good j time commit =
+        quiet (asked_each (λ (d : Followed). d.handed ≡ false) c s time commit (median_of (values_of (map (λ (x : Signed). x.said) (signed_in b)))) refl refl)
+    handed_whole kind.Report good j time commit = quiet refl
+    handed_whole kind.Final good j time commit = quiet refl
+    handed_whole kind.FinalEcho good j time commit = λ _. echo_whole good (attested_in b) (is_set s.kept) refl
 
 -- ---- all of it
 

@@ -23,7 +23,7 @@ use Rattle.pacemaker.specs.State.{is_started}
 use Rattle.pacemaker.specs.Rules as pacemaker
 use Rattle.std.specs.Prelude.{Ok, Err}
 use Rattle.follower.specs.declared.Objection.TheVariants as objection
-use Rattle.follower.specs.Takes.{Finding, Taken, finding_of, answer_of}
+use Rattle.follower.specs.Takes.{Finding, finding_of, answer_of}
 use Rattle.leader.specs.Takes as leader
 use Rattle.node.specs.declared.Node.{Node}
 use Rattle.node.specs.declared.Fired.{Fired}

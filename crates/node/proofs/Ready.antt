@@ -24,7 +24,7 @@ use Rattle.node.specs.declared.Fired.{Fired}
 use Rattle.node.specs.State.{good_node, good_kept, good_state, roomy}
 use Rattle.node.specs.Answers.{ending, timer_answer, delivery_answer, after_state}
 use Rattle.node.specs.Ready.{Room, Sound, Taken}
-use Rattle.node.proofs.Checks.{state_passed, state_config, timer_passed, delivery_passed}
+use Rattle.node.proofs.Checks.{node_facts, state_passed, state_config, timer_passed, delivery_passed}
 
 -- ---- members
 
@@ -34,6 +34,9 @@ members_some c h = (good_facts c h).feed.members.some
 
 pub members_most : (c : Config) → good_config c ≡ true → c.n ≤ members
 members_most c h = (good_facts c h).feed.members.most
+
+pub node_members : (n : Node) → good_node n ≡ true → n.config.n ≤ members
+node_members n h = members_most n.config (node_facts n h).config
 
 -- ---- bodies
 

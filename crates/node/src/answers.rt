@@ -54,19 +54,17 @@ pub(crate) fn roomy(outbox: usize, at: usize, kept: usize, signatures: usize) ->
 
 impl Node {
     // Whether every field is in its range, and so is the body that is kept in a buffer of full size.
-    #[tactic(auto, unfolding(crate::specs::State::good_state, crate::specs::State::good_kept))]
+    #[tactic(auto, using(crate::proofs::Ready::node_members), unfolding(crate::specs::State::good_state, crate::specs::State::good_kept))]
     fn good(self, kept: &[u8]) -> bool
         ensures { result ≡ good_state self kept.now }
     {
         if !self.good_fields() {
             return false;
         }
-        let config = self.config;
-        let follower = self.follower;
-        if (follower.kept != 1) | (kept.len() < Config::KEPT) {
+        if (self.follower.kept != 1) | (kept.len() < Config::KEPT) {
             return true;
         }
-        report::good_kept(kept, config.n)
+        report::good_kept(kept, self.config.n)
     }
 
     // Whether every field is in its range.
@@ -74,11 +72,7 @@ impl Node {
     fn good_fields(self) -> bool
         ensures { result ≡ good_node self }
     {
-        let config = self.config;
-        let pace = self.pace;
-        let follower = self.follower;
-        let leader = self.leader;
-        config.good() & pace.good() & follower.good() & leader.good()
+        self.config.good() & self.pace.good() & self.follower.good() & self.leader.good()
     }
 
     // 2, 3, then the answer of the event.
@@ -100,11 +94,10 @@ impl Node {
     pub(crate) fn start_answer(self, time: u64) -> Answer
         ensures { result ≡ start_answer self time }
     {
-        let pace = self.pace;
         if !config::good_time(time) {
             return Err(Refusal::Range);
         }
-        if !pace.may_start() {
+        if !self.pace.may_start() {
             return Err(Refusal::Ignored);
         }
         Ok(())
@@ -144,13 +137,11 @@ impl Node {
         ensures { result ≡ firing self fired }
     {
         let config = self.config;
-        let pace = self.pace;
-        let leader = self.leader;
         match fired {
-            Fired::Resend => pace.fires_resend(),
-            Fired::Progress => pace.fires_progress(),
-            Fired::Round => leader.fires_round(self.leads()),
-            Fired::Grace => leader.fires_grace(config.n, config.f, self.leads()),
+            Fired::Resend => self.pace.fires_resend(),
+            Fired::Progress => self.pace.fires_progress(),
+            Fired::Round => self.leader.fires_round(self.leads()),
+            Fired::Grace => self.leader.fires_grace(config.n, config.f, self.leads()),
         }
     }
 
@@ -159,13 +150,10 @@ impl Node {
     fn ending(self, fired: Fired) -> bool
         ensures { result ≡ ending self fired }
     {
-        let pace = self.pace;
-        let leader = self.leader;
         match fired {
-            Fired::Resend => false,
-            Fired::Progress => pace.past_end(),
-            Fired::Round => leader.past_end(),
-            Fired::Grace => false,
+            Fired::Progress => self.pace.past_end(),
+            Fired::Round => self.leader.past_end(),
+            Fired::Resend | Fired::Grace => false,
         }
     }
 
@@ -200,13 +188,11 @@ impl Node {
         requires { Sound self.config j (number_of kind) body.now }
         ensures { result ≡ message_answer self j bits (message_of (number_of kind) body.now) }
     {
-        let config = self.config;
-        let pace = self.pace;
-        if pace.may_start() {
+        if self.pace.may_start() {
             return Err(Refusal::Ignored);
         }
         self.rule_answer(j, bits, kind, body)?;
-        if Follower::halts(config, kind, body) & pace.past_end() {
+        if Follower::halts(self.config, kind, body) & self.pace.past_end() {
             return Err(Refusal::End);
         }
         Ok(())
@@ -230,11 +216,10 @@ impl Node {
         requires { Sound self.config j (number_of kind) body.now }
         ensures { result ≡ follower_answer self j bits (message_of (number_of kind) body.now) }
     {
-        let config = self.config;
-        let pace = self.pace;
-        let follower = self.follower;
-        let leader = config::leader_of(config.n, pace.epoch);
-        follower.finding(config, pace.epoch, leader, j, kind, body, bits)?;
+        let epoch = self.pace.epoch;
+        let leader = config::leader_of(self.config.n, epoch);
+        self.follower
+            .finding(self.config, epoch, leader, j, kind, body, bits)?;
         Ok(())
     }
 
@@ -243,13 +228,12 @@ impl Node {
         requires { Sound self.config j (number_of kind) body.now }
         ensures { result ≡ leader_answer self j bits (message_of (number_of kind) body.now) }
     {
-        let config = self.config;
-        let pace = self.pace;
+        let n = self.config.n;
         let leader = self.leader;
-        if !leader.takes(config.n, self.leads(), pace.epoch, j, kind, body) {
+        if !leader.takes(n, self.leads(), self.pace.epoch, j, kind, body) {
             return Err(Refusal::Ignored);
         }
-        if !leader.stands(config.n, bits, kind, body) {
+        if !leader.stands(n, bits, kind, body) {
             return Err(Refusal::Proof);
         }
         Ok(())
@@ -261,10 +245,8 @@ impl Node {
         ensures { result ≡ leads self }
     {
         let config = self.config;
-        let pace = self.pace;
-        let follower = self.follower;
-        (pace.started == 1)
-            & (follower.live == 1)
-            & (config.own == config::leader_of(config.n, pace.epoch))
+        (self.pace.started == 1)
+            & (self.follower.live == 1)
+            & (config.own == config::leader_of(config.n, self.pace.epoch))
     }
 }

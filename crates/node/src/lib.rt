@@ -80,6 +80,16 @@ pub struct Timers {
     pub grace: Timer,
 }
 
+impl Timers {
+    // Every timer is left alone.
+    const LEAVE: Timers = Timers {
+        resend: Timer::Leave,
+        progress: Timer::Leave,
+        round: Timer::Leave,
+        grace: Timer::Leave,
+    };
+}
+
 // What making a node came to. Where the answer is not DONE the node is of no use: each call of it answers STATE.
 #[derive(Clone, Copy)]
 pub struct Made {
@@ -146,8 +156,7 @@ impl Node {
         let room = answers::roomy(outbox.len(), at, kept.len(), signatures.len());
         let answer = self.after_state(room, kept, self.start_answer(time));
         if answer.is_ok() {
-            let pace = self.pace;
-            return self.pacing(pace.start(), outbox, at);
+            return self.pacing(self.pace.start(), outbox, at);
         }
         self.refusing(answer)
     }
@@ -216,12 +225,7 @@ impl Node {
             answer,
             node: self,
             written: 0,
-            timers: Timers {
-                resend: Timer::Leave,
-                progress: Timer::Leave,
-                round: Timer::Leave,
-                grace: Timer::Leave,
-            },
+            timers: Timers::LEAVE,
             handed: self.nothing_handed(),
         }
     }
@@ -242,9 +246,8 @@ impl Node {
     fn nothing_handed(self) -> Handed
         ensures { result ≡ nothing_handed self }
     {
-        let follower = self.follower;
         Handed {
-            held: follower.kept == 1,
+            held: self.follower.kept == 1,
             start: 0,
             len: 0,
         }

@@ -61,9 +61,7 @@ impl Node {
         requires { (good_config self.config ≡ true) × (1 ≤ j) × (j ≤ self.config.n) × Room outbox.old at kept.old signatures.old }
         ensures { out result outbox.new kept.new signatures.new ≡ settled (hearing (whole self kept.old signatures.old) j x) outbox.old at }
     {
-        let config = self.config;
-        let pace = self.pace;
-        let paced = pace.new_epoch(config.n, config.f, j, x);
+        let paced = self.pace.new_epoch(self.config.n, self.config.f, j, x);
         if paced.moved {
             return self.moving(paced, outbox, at, kept, signatures);
         }
@@ -75,10 +73,11 @@ impl Node {
         requires { Fits 1 0 0 outbox.old at }
         ensures { (kept signatures : List ℕ) → out result outbox.new kept signatures ≡ settled (pacing (whole self kept signatures) paced) outbox.old at }
     {
-        let sent = paced.sent;
-        let pace = paced.pace;
-        let written = writing::write_announced(self.config, sent, outbox, at);
-        let node = Node { pace, ..self };
+        let written = writing::write_announced(self.config, paced.sent, outbox, at);
+        let node = Node {
+            pace: paced.pace,
+            ..self
+        };
         node.doing(written, paced_timers(paced), self.nothing_handed())
     }
 
@@ -95,29 +94,16 @@ impl Node {
         requires { (good_config self.config ≡ true) × Room outbox.old at kept.old signatures.old }
         ensures { out result outbox.new kept.new signatures.new ≡ settled (moving (whole self kept.old signatures.old) paced) outbox.old at }
     {
-        let config = self.config;
-        let pace = paced.pace;
-        let sent = paced.sent;
         report::clear(kept);
-        let led = begun(config, pace.epoch, signatures);
-        let leader = led.leader;
-        let asking = led.asking;
-        let first = writing::write_announced(config, sent, outbox, at);
-        let second = writing::write_asking(
-            config,
-            pace.epoch,
-            leader,
-            asking,
-            &signatures[..],
-            outbox,
-            at + first,
-        );
+        let led = begun(self.config, paced.pace.epoch, signatures);
         let node = Node {
-            config,
-            pace,
+            config: self.config,
+            pace: paced.pace,
             follower: Follower::in_round(1, 0),
-            leader,
+            leader: led.leader,
         };
+        let first = writing::write_announced(self.config, paced.sent, outbox, at);
+        let second = node.write_asking(led.asking, &signatures[..], outbox, at + first);
         node.doing(
             first + second,
             moved_timers(paced, led),
@@ -138,11 +124,10 @@ impl Node {
         ensures { (signatures : List ℕ) → out result outbox.new kept.new signatures ≡ settled (following (whole self kept.old signatures) (delivery_of arrival.entry) (message_in arrival.entry.frame.now)) outbox.old at }
     {
         let config = self.config;
-        let follower = self.follower;
-        let held = follower.kept;
+        let held = self.follower.kept;
         let kind = frame::known_kind(arrival.frame);
         let body = frame::body_of(arrival.frame);
-        let followed = follower.follow(
+        let followed = self.follower.follow(
             config,
             arrival.link,
             kind,
@@ -152,25 +137,20 @@ impl Node {
             kept,
         );
         let handed = follower::handed_of(followed.handed, held, &kept[..], body);
-        let raised = followed.raised;
-        let reply = followed.reply;
-        let paced = raising(raised, self.pace);
-        let pace = paced.pace;
-        let sent = paced.sent;
-        let announced = writing::write_announced(config, sent, outbox, at);
+        let paced = raising(followed.raised, self.pace);
+        let announced = writing::write_announced(config, paced.sent, outbox, at);
         let replied = writing::write_reply(
             config,
-            reply,
+            followed.reply,
             arrival.observation,
             kind,
             body,
             outbox,
             at + announced,
         );
-        let follower = followed.follower;
         let node = Node {
-            pace,
-            follower,
+            pace: paced.pace,
+            follower: followed.follower,
             ..self
         };
         node.doing(announced + replied, paced_timers(paced), handed)
@@ -190,8 +170,7 @@ impl Node {
         requires { Sound self.config j (number_of kind) body.now × (at + outbox_size ≤ length outbox.old) × (signatures_size ≤ length signatures.old) }
         ensures { (kept : List ℕ) → out result outbox.new kept signatures.new ≡ settled (led_by (whole self kept signatures.old) j (message_of (number_of kind) body.now)) outbox.old at }
     {
-        let leader = self.leader;
-        let led = leader.lead(self.config, j, kind, body, signatures);
+        let led = self.leader.lead(self.config, j, kind, body, signatures);
         self.leading(led, outbox, at, &signatures[..])
     }
 
@@ -201,19 +180,11 @@ impl Node {
         requires { (good_config self.config ≡ true) × (at + outbox_size ≤ length outbox.old) × (signatures_size ≤ length signatures.now) }
         ensures { (kept before : List ℕ) → out result outbox.new kept signatures.now ≡ settled (leading (whole self kept before) led signatures.now) outbox.old at }
     {
-        let pace = self.pace;
-        let leader = led.leader;
-        let asking = led.asking;
-        let written = writing::write_asking(
-            self.config,
-            pace.epoch,
-            leader,
-            asking,
-            signatures,
-            outbox,
-            at,
-        );
-        let node = Node { leader, ..self };
+        let node = Node {
+            leader: led.leader,
+            ..self
+        };
+        let written = node.write_asking(led.asking, signatures, outbox, at);
         node.doing(written, led_timers(led), self.nothing_handed())
     }
 
@@ -229,16 +200,14 @@ impl Node {
         requires { (good_config self.config ≡ true) × (ending self fired ≡ false) × (at + outbox_size ≤ length outbox.old) × (signatures_size ≤ length signatures.old) }
         ensures { (kept : List ℕ) → out result outbox.new kept signatures.new ≡ settled (timing (whole self kept signatures.old) fired) outbox.old at }
     {
-        let pace = self.pace;
-        let leader = self.leader;
         match fired {
-            Fired::Resend => self.pacing(pace.send_again(), outbox, at),
-            Fired::Progress => self.pacing(pace.change_leader(), outbox, at),
+            Fired::Resend => self.pacing(self.pace.send_again(), outbox, at),
+            Fired::Progress => self.pacing(self.pace.change_leader(), outbox, at),
             Fired::Round => {
-                let led = leader.next_round(self.config, signatures);
+                let led = self.leader.next_round(self.config, signatures);
                 self.leading(led, outbox, at, &signatures[..])
             }
-            Fired::Grace => self.leading(leader.close(), outbox, at, &signatures[..]),
+            Fired::Grace => self.leading(self.leader.close(), outbox, at, &signatures[..]),
         }
     }
 }
@@ -276,40 +245,29 @@ fn begun(config: Config, epoch: u32, signatures: &mut [u8]) -> Led
 fn paced_timers(paced: Paced) -> Timers
     ensures { result ≡ paced_timers paced }
 {
-    let resend = paced.resend;
-    let progress = paced.progress;
     Timers {
-        resend,
-        progress,
-        round: Timer::Leave,
-        grace: Timer::Leave,
+        resend: paced.resend,
+        progress: paced.progress,
+        ..Timers::LEAVE
     }
 }
 
 fn led_timers(led: Led) -> Timers
     ensures { result ≡ led_timers led }
 {
-    let round = led.t_round;
-    let grace = led.t_grace;
     Timers {
-        resend: Timer::Leave,
-        progress: Timer::Leave,
-        round,
-        grace,
+        round: led.t_round,
+        grace: led.t_grace,
+        ..Timers::LEAVE
     }
 }
 
 fn moved_timers(paced: Paced, fresh: Led) -> Timers
     ensures { result ≡ moved_timers paced fresh }
 {
-    let resend = paced.resend;
-    let progress = paced.progress;
-    let round = fresh.t_round;
-    let grace = fresh.t_grace;
     Timers {
-        resend,
-        progress,
-        round,
-        grace,
+        round: fresh.t_round,
+        grace: fresh.t_grace,
+        ..paced_timers(paced)
     }
 }

@@ -9,12 +9,14 @@ ghost use Rattle.outbox.specs.Written.{Fits};
 ghost use Rattle.node.specs.Effects.{announced, asking_for, replying};
 ghost use Rattle.node.specs.Ready.{WroteAll, AskingFits, Answers, ReplyFits};
 
+use crate::Node;
 use config::Config;
 use follower::Reply;
 use frame::Kind;
-use leader::{Asking, Leader};
+use leader::Asking;
 
 // Writes the NEWEPOCH that the pacemaker sends, if it does.
+#[tactic(auto, using(wire::proofs::Overlay::over_none), unfolding(crate::specs::Calls::frames_of))]
 pub(crate) fn write_announced(
     config: Config,
     sent: Option<u32>,
@@ -30,31 +32,35 @@ pub(crate) fn write_announced(
     }
 }
 
-// Writes what the leader asks for, if it does.
-pub(crate) fn write_asking(
-    config: Config,
-    epoch: u32,
-    leader: Leader,
-    asking: Asking,
-    signatures: &[u8],
-    outbox: &mut [u8],
-    at: usize,
-) -> usize
-    requires { (config.n ≤ members) × (signatures_size ≤ length signatures.now) × AskingFits config leader asking outbox.old at }
-    ensures { WroteAll config (asking_for config epoch leader signatures.now asking) outbox.old at outbox.new result }
-{
-    match asking {
-        Asking::Nothing => 0,
-        Asking::Observations => {
-            outbox::write_observe_req(outbox, at, config, epoch, leader.round)
+impl Node {
+    // Writes what this node's leader asks for, if it does.
+    #[tactic(auto, using(wire::proofs::Overlay::over_none), unfolding(crate::specs::Calls::frames_of))]
+    pub(crate) fn write_asking(
+        self,
+        asking: Asking,
+        signatures: &[u8],
+        outbox: &mut [u8],
+        at: usize,
+    ) -> usize
+        requires { (self.config.n ≤ members) × (signatures_size ≤ length signatures.now) × AskingFits self.config self.leader asking outbox.old at }
+        ensures { WroteAll self.config (asking_for self.config self.pace.epoch self.leader signatures.now asking) outbox.old at outbox.new result }
+    {
+        let config = self.config;
+        let epoch = self.pace.epoch;
+        let leader = self.leader;
+        match asking {
+            Asking::Nothing => 0,
+            Asking::Observations => {
+                outbox::write_observe_req(outbox, at, config, epoch, leader.round)
+            }
+            Asking::Reports => leader.write_request(config, epoch, signatures, outbox, at),
+            Asking::Final => leader.write_final(config, epoch, signatures, outbox, at),
         }
-        Asking::Reports => leader.write_request(config, epoch, signatures, outbox, at),
-        Asking::Final => leader.write_final(config, epoch, signatures, outbox, at),
     }
 }
 
 // Writes the follower's reply to a body, if it has one.
-#[tactic(auto, using(frame::proofs::Checked::checked_length, frame::proofs::Checked::checked_head, follower::proofs::Bodies::checked_attested), unfolding(frame::specs::Table::body_length))]
+#[tactic(auto, using(frame::proofs::Checked::checked_length, frame::proofs::Checked::checked_head, follower::proofs::Bodies::checked_attested, wire::proofs::Overlay::over_none), unfolding(frame::specs::Table::body_length, frame::specs::Decode::message_of, crate::specs::Calls::frames_of))]
 pub(crate) fn write_reply(
     config: Config,
     reply: Reply,

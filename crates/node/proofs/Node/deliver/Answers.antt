@@ -1,6 +1,5 @@
 -- `Node::deliver` meets its contract: where the answer is DONE its checks leave what the message's rule asks for.
-use Rattle.std.proofs.Common.{sym, ap, ◌∙◌, w64, rules}
-use Rattle.std.proofs.lemmas.Int.{to_z-of_z}
+use Rattle.std.proofs.Common.{sym, ap, ◌∙◌}
 use Rattle.std.specs.Result.{is_ok}
 use Rattle.node.specs.Calls.{called}
 use Rattle.node.proofs.Node.deliver.Goals as goal

@@ -1,11 +1,8 @@
 -- `Node::delivering` meets its contract: the frame's kind picks the part, whose own function promises the rest.
-use Rattle.std.proofs.Common.{◌≡◌, arith, w64, rules}
-use Rattle.std.proofs.lemmas.Int.{to_z-of_z}
+use Rattle.std.proofs.Common.{◌≡◌}
 use Rattle.frame.specs.Kinds.{number_of}
 use Rattle.frame.specs.Decode.{message_of, message_in}
 use Rattle.node.specs.Event.{whole, delivery_of}
-use Rattle.node.specs.Ready.{Sound}
-use Rattle.node.proofs.Ready.{sound_frame}
 use Rattle.node.proofs.Followed.{delivering_follows}
 use Rattle.node.proofs.Node.delivering.Goals as goal
 

@@ -16,16 +16,16 @@ handed_of-handed-requires c =
     let a = c.args in
     let h : Sound a.self.config a.arrival.link (number_of c.known_kind-kind.result) c.body_of-body.result.now = rw (c.known_kind-kind.ensures, c.body_of-body.ensures) (sound_frame a.self.config a.arrival.link a.arrival.frame.now c.requires.0.config c.requires.0.frame_good) in
     rw (c.follow-followed.ensures.0, c.follow-followed.ensures.1)
-    (handed_whole a.self.config a.self.follower _ _ a.kept.now h.kind_first h.kind_last h.body_good (members_most a.self.config h.config) c.requires.2 c.requires.0.held a.arrival.link a.arrival.time a.arrival.commit)
+    (handed_whole a.self.config a.self.follower _ a.kept.now (members_most a.self.config h.config) c.requires.2 c.requires.0.held c.known_kind-kind.result h.body_good a.arrival.link a.arrival.time a.arrival.commit)
 
 pub write_reply-replied-requires : goal.write_reply-replied-requires
 write_reply-replied-requires c =
     let a = c.args in
-    let kind = (number_of c.known_kind-kind.result) in
+    let kind = number_of c.known_kind-kind.result in
     let body = c.body_of-body.result.now in
     let h : Sound a.self.config a.arrival.link kind body = rw (c.known_kind-kind.ensures, c.body_of-body.ensures) (sound_frame a.self.config a.arrival.link a.arrival.frame.now c.requires.0.config c.requires.0.frame_good) in
     let first : c.write_announced-announced.result ≤ announcement_size = rw c.write_announced-announced.ensures.long (announced_long a.self.config c.raising-paced.result.sent) in
-    let answers = rw (← c.follow-followed.ensures.0) at (reply_answers a.self.config a.self.follower a.arrival.link a.arrival.time a.arrival.commit kind body h.kind_first h.kind_last) in
+    let answers = rw (← c.follow-followed.ensures.0) at (reply_answers a.self.config a.self.follower a.arrival.link a.arrival.time a.arrival.commit c.known_kind-kind.result body) in
     (h.body_good, answers, reply_fits a.self.config.n kind body c.follow-followed.result.reply _ _ (members_most a.self.config h.config) h.body_good answers (omega arith))
 
 -- only one of the two is written
