@@ -152,9 +152,7 @@ impl Sender {
             return next;
         }
         // the checks leave a free slot
-        let Some(slot) = queueing::free_in(self.taken) else {
-            return next;
-        };
+        let slot = queueing::free_in(self.taken).unwrap();
         let start = slot * Config::KEPT;
         report::keep(&mut waiting[start..], body);
         next.with_slot(
@@ -170,9 +168,9 @@ impl Sender {
         ensures { result ≡ timeout_of self time commit waiting.now }
     {
         let answer = self.timeout_answer(time, commit, waiting);
-        if answer.is_ok()
-            && let Some(slot) = self.earliest(waiting)
-        {
+        if answer.is_ok() {
+            // the checks leave a report that waits
+            let slot = self.earliest(waiting).unwrap();
             return self.released(slot, time, commit, waiting);
         }
         Released {

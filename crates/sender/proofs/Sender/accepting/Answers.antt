@@ -4,7 +4,9 @@ use borrow.Rule.Slice.PartMut.{mid_len}
 use Rattle.config.specs.Limits.{most_stages, kept_size, slots}
 use Rattle.config.proofs.Facts.{good_facts}
 use Rattle.frame.proofs.Checked.{checked_final}
+use Rattle.std.specs.Prelude.{Some}
 use Rattle.sender.specs.Stage.{stage_for}
+use Rattle.sender.specs.Waiting.{IsSlot, free_in}
 use Rattle.sender.specs.Calls.{accepting, accepting_bytes}
 use Rattle.sender.proofs.Slots.{body_fits, slot_keep}
 use Rattle.sender.proofs.Sender.accepting.Goals as goal
@@ -26,8 +28,9 @@ pub keep-requires : goal.keep-requires
 keep-requires c =
     let few = (good_facts c.args.self.config c.requires.config).feed.members.most in
     let w = c.args.waiting.now in
-    let slot = c.in-Some.slot in
-    let free : slot < slots = c.in-Some.ensures.1 in
+    let found : IsSlot (Some c.unwrap-slot.result) (free_in c.args.self.taken) = rw c.unwrap-slot.ensures at c.free_in.ensures in
+    let slot = c.unwrap-slot.result in
+    let free : slot < slots = found.1 in
     let long = mid_len (slot * kept_size) (length w) w (le_refl (length w)) in
     (body_fits c.args.self.config.n c.args.body.now few c.requires.body_good, omega (arith, c.requires.room))
 
@@ -53,8 +56,9 @@ returns c =
     let few = (good_facts c.args.self.config c.requires.config).feed.members.most in
     let fits = body_fits c.args.self.config.n c.args.body.now few c.requires.body_good in
     let held = sym c.if-not-waits.ensures in
-    let lowest = c.in-Some.ensures.0 in
+    let found : IsSlot (Some c.unwrap-slot.result) (free_in c.args.self.taken) = rw c.unwrap-slot.ensures at c.free_in.ensures in
+    let lowest = found.0 in
     let median : to_z w64 (of_z w64 c.median.result) ≡ c.median.result = to_z-of_z {w = w64} (record { sfits = c.median.type_inv }) in (
       rw (c.with_slot.ensures, c.delay_of.ensures, c.stage_for.ensures.0, lowest, held, c.round_of.ensures, c.epoch_of.ensures, median, c.median.ensures, c.stride.ensures),
-      slot_keep c.args.waiting.now _ c.args.body.now c.in-Some.slot c.requires.room c.in-Some.ensures.1 fits c.keep.ensures ∙ rw (lowest, held),
+      slot_keep c.args.waiting.now _ c.args.body.now c.unwrap-slot.result c.requires.room found.1 fits c.keep.ensures ∙ rw (lowest, held),
     )
