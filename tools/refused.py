@@ -22,6 +22,7 @@ usage: tools/refused.py [ROOT [LOGS]]    says what is amiss, and then ends with 
        tools/refused.py --list [ROOT]    a line for each mistake: crate/name, function, edit
 """
 
+import os
 import queue
 import re
 import shutil
@@ -41,8 +42,8 @@ SEARCH = re.compile(r"fn \w+::(\S+): no proof: .*`search` did not prove")
 # a goal that a function leaves stands above the function's own line
 GOAL = re.compile(r"note: \S+:\d+:\d+: it is not proved that ")
 FUNCTION = re.compile(r"(?:fn|struct|enum) \w+::(\S+): (?:not proved|no proof)")
-# how many crates are tried at a time, each in a copy of its own
-COPIES = 2
+# how many crates are tried at a time, each in a copy of its own: one a core, of which a check takes about a gigabyte
+COPIES = min(os.cpu_count() or 2, 4)
 
 
 class Mistake:
