@@ -3,3 +3,4 @@ pub mod Answers
 pub mod Codes
 pub mod Bounds
 pub mod Leader
+pub mod Claims
