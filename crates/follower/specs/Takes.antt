@@ -11,6 +11,10 @@ use Rattle.follower.specs.declared.Objection.{Objection}
 use Rattle.follower.specs.declared.Objection.TheVariants as objection
 use Rattle.follower.specs.State.{is_set}
 
+-- how one round stands to another: 0 below it, 1 the same, 2 above it
+abbrev pub relation_of : ℕ → ℕ → ℕ
+relation_of r own = cond (ltb r own) 0 (cond (eqb r own) 1 2)
+
 -- "Every rule needs the message's epoch to be current and the instance not halted."
 abbrev pub current : Follower → ℕ → ℕ → Bool
 current s epoch e = is_set s.live && eqb e epoch

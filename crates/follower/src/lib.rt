@@ -118,19 +118,20 @@ impl Follower {
     }
 
     // Whether a request halts the instance: whoever follows it raises changeleader.
-    #[tactic(auto, using(frame::proofs::Checked::checked_head, frame::proofs::Messages::by_kind), unfolding(frame::specs::Decode::message_of))]
+    #[tactic(auto, using(frame::proofs::Numbers::number_low, frame::proofs::Numbers::number_high, frame::proofs::Checked::checked_head, frame::proofs::Messages::by_kind), unfolding(frame::specs::Decode::message_of))]
     pub fn halts(config: Config, kind: Kind, body: &[u8]) -> bool
         requires { body_answer config.n (number_of kind) body.now ≡ Done }
         ensures { result ≡ halts config (message_of (number_of kind) body.now) }
     {
+        let kind = kind.number();
         match kind {
-            Kind::ObserveReq => config.r_max < frame::round_of(body),
+            2 => config.r_max < frame::round_of(body),
             _ => false,
         }
     }
 
     // What a message does that was taken.
-    #[tactic(auto, using(frame::proofs::Messages::by_kind, frame::proofs::Checked::checked_head, frame::proofs::Checked::checked_report_req, crate::proofs::Bodies::whole_list), unfolding(frame::specs::Decode::message_of))]
+    #[tactic(auto, using(frame::proofs::Numbers::number_low, frame::proofs::Numbers::number_high, frame::proofs::Messages::by_kind, frame::proofs::Checked::checked_head, frame::proofs::Checked::checked_report_req, crate::proofs::Bodies::whole_list), unfolding(frame::specs::Decode::message_of))]
     pub fn follow(
         self,
         config: Config,
@@ -144,20 +145,21 @@ impl Follower {
         requires { (body_answer config.n (number_of kind) body.now ≡ Done) × (1 ≤ j) × (j ≤ config.n) × (config.n ≤ members) × (kept_size ≤ length kept.old) }
         ensures { (result ≡ follow_of config self j time commit (message_of (number_of kind) body.now)) × (kept.new ≡ kept_of self kept.old (message_of (number_of kind) body.now)) }
     {
+        let kind = kind.number();
         match kind {
-            Kind::ObserveReq => {
+            2 => {
                 report::clear(kept);
                 self.requested(config, frame::round_of(body))
             }
-            Kind::ReportReq => {
+            4 => {
                 let median = report::median(body, frame::stride(Kind::ReportReq));
                 self.asked(config, time, commit, median)
             }
-            Kind::Final => {
+            6 => {
                 report::keep(kept, body);
                 self.received()
             }
-            Kind::FinalEcho => {
+            7 => {
                 keep_unless(self.kept, kept, body);
                 self.echoed(config, j)
             }

@@ -1,13 +1,12 @@
 // Which messages a follower takes, and what is wrong with one that it takes.
 ghost use Rattle.std.specs.Prelude.{◌≡◌, ℕ, ◌≤◌, length, Err};
-ghost use Rattle.std.specs.Ordering.{nat_cmp};
 ghost use Rattle.config.specs.Limits.{members};
 ghost use Rattle.config.specs.Answers.{Done};
 ghost use Rattle.frame.specs.Kinds.{number_of};
 ghost use Rattle.frame.specs.Message.{observe_req, report_req, final, final_echo};
 ghost use Rattle.frame.specs.Decode.{epoch_in, round_in, signed_in, attested_in, message_of};
 ghost use Rattle.frame.specs.Check.{body_answer};
-ghost use Rattle.follower.specs.Takes.{current, takes, fault_of, finding_of, answer_of};
+ghost use Rattle.follower.specs.Takes.{relation_of, current, takes, fault_of, finding_of, answer_of};
 ghost use Rattle.follower.specs.declared.Objection.TheVariants.{Wrong};
 
 use crate::{Finding, Follower, Objection};
@@ -60,16 +59,17 @@ impl Follower {
     }
 
     // Whether the conditions of the message's rule hold.
-    #[tactic(auto, using(frame::proofs::Checked::checked_head, frame::proofs::Messages::by_kind), unfolding(frame::specs::Decode::message_of))]
+    #[tactic(auto, using(frame::proofs::Numbers::number_low, frame::proofs::Numbers::number_high, frame::proofs::Checked::checked_head, frame::proofs::Messages::by_kind), unfolding(frame::specs::Decode::message_of))]
     fn takes(self, n: u8, epoch: u32, leader: u8, j: u8, kind: Kind, body: &[u8]) -> bool
         requires { (body_answer n (number_of kind) body.now ≡ Done) × (1 ≤ j) × (j ≤ members) }
         ensures { result ≡ takes self epoch leader j (message_of (number_of kind) body.now) }
     {
+        let kind = kind.number();
         match kind {
-            Kind::ObserveReq => self.takes_request(epoch, leader, j, body),
-            Kind::ReportReq => self.takes_list(epoch, leader, j, body),
-            Kind::Final => self.takes_final(epoch, leader, j, body),
-            Kind::FinalEcho => self.takes_echo(epoch, j, body),
+            2 => self.takes_request(epoch, leader, j, body),
+            4 => self.takes_list(epoch, leader, j, body),
+            6 => self.takes_final(epoch, leader, j, body),
+            7 => self.takes_echo(epoch, j, body),
             _ => false,
         }
     }
@@ -81,12 +81,16 @@ impl Follower {
         (self.live == 1) & (e == epoch)
     }
 
-    // How the round of a body stands to this node's.
-    fn relation(self, body: &[u8]) -> Ordering
+    // How the round of a body stands to this node's: 0 below it, 1 the same, 2 above it.
+    fn relation(self, body: &[u8]) -> u8
         requires { 5 ≤ length body.now }
-        ensures { result ≡ nat_cmp (round_in body.now) self.round }
+        ensures { result ≡ relation_of (round_in body.now) self.round }
     {
-        frame::round_of(body).cmp(&self.round)
+        match frame::round_of(body).cmp(&self.round) {
+            Ordering::Less => 0,
+            Ordering::Equal => 1,
+            Ordering::Greater => 2,
+        }
     }
 
     #[tactic(auto, using(crate::proofs::Rounds::later_round))]
@@ -94,10 +98,10 @@ impl Follower {
         requires { 5 ≤ length body.now }
         ensures { result ≡ takes self epoch leader j (observe_req (epoch_in body.now) (round_in body.now)) }
     {
-        let current = self.current(epoch, frame::epoch_of(body));
-        match self.relation(body) {
-            Ordering::Less | Ordering::Equal => false,
-            _ => current & (j == leader),
+        let relation = self.relation(body);
+        match relation {
+            0..=1 => false,
+            _ => self.current(epoch, frame::epoch_of(body)) & (j == leader),
         }
     }
 
@@ -106,9 +110,12 @@ impl Follower {
         requires { 5 ≤ length body.now }
         ensures { result ≡ takes self epoch leader j (report_req (epoch_in body.now) (round_in body.now) (signed_in body.now)) }
     {
-        let current = self.current(epoch, frame::epoch_of(body));
-        match self.relation(body) {
-            Ordering::Equal => current & (j == leader) & (self.signed != 1) & (self.completed != 1),
+        let relation = self.relation(body);
+        match relation {
+            1 => self.current(epoch, frame::epoch_of(body))
+                & (j == leader)
+                & (self.signed != 1)
+                & (self.completed != 1),
             _ => false,
         }
     }
@@ -118,9 +125,9 @@ impl Follower {
         requires { 5 ≤ length body.now }
         ensures { result ≡ takes self epoch leader j (final (attested_in body.now)) }
     {
-        let current = self.current(epoch, frame::epoch_of(body));
-        match self.relation(body) {
-            Ordering::Equal => current & (j == leader) & (self.kept != 1),
+        let relation = self.relation(body);
+        match relation {
+            1 => self.current(epoch, frame::epoch_of(body)) & (j == leader) & (self.kept != 1),
             _ => false,
         }
     }
@@ -132,26 +139,27 @@ impl Follower {
     {
         let place = j as usize - 1;
         let mark = self.marks[place];
-        let current = self.current(epoch, frame::epoch_of(body));
-        match self.relation(body) {
-            Ordering::Equal => current & (mark != 1) & (self.completed != 1),
+        let relation = self.relation(body);
+        match relation {
+            1 => self.current(epoch, frame::epoch_of(body)) & (mark != 1) & (self.completed != 1),
             _ => false,
         }
     }
 }
 
 // What is wrong with a message that is taken.
-#[tactic(auto, using(frame::proofs::Messages::by_kind, crate::proofs::Bodies::whole_list, crate::proofs::Bodies::list_faults, crate::proofs::Bodies::whole_report), unfolding(frame::specs::Decode::message_of))]
+#[tactic(auto, using(frame::proofs::Numbers::number_low, frame::proofs::Numbers::number_high, frame::proofs::Messages::by_kind, crate::proofs::Bodies::whole_list, crate::proofs::Bodies::list_faults, crate::proofs::Bodies::whole_report), unfolding(frame::specs::Decode::message_of))]
 fn fault_of(n: u8, f: u8, kind: Kind, body: &[u8], bits: u64) -> Standing
     requires { body_answer n (number_of kind) body.now ≡ Done }
     ensures { result ≡ fault_of f bits (message_of (number_of kind) body.now) }
 {
+    let kind = kind.number();
     match kind {
-        Kind::ReportReq => {
+        4 => {
             report::list_fault(body, frame::stride(Kind::ReportReq), f)?;
             report::bits_fault(bits, frame::count_of(body))
         }
-        Kind::Final | Kind::FinalEcho => report::attested_fault(body, f, bits),
+        6..=7 => report::attested_fault(body, f, bits),
         _ => Ok(()),
     }
 }

@@ -107,6 +107,12 @@ members_first n stride (suc left) p b h g =
     let e : suc left - 1 ≡ left = omega arith in
     simp (e, first_of_part b p stride g, drop-drop, one_to_n_lem)
 
+pub times_first : (left stride : ℕ) → 0 < left → left * stride ≡ stride + (left - 1) * stride
+times_first zero stride h = absurd (not-suc-le-zero h)
+times_first (suc left) stride h =
+    let e : suc left - 1 ≡ left = omega arith in
+    rw (e, suc-mul) (add_comm (left * stride) stride)
+
 -- Whatever entries say: if their first byte is their member's number, it alone is tested.
 module _ {A : Type 0} (n : ℕ) (member : A → ℕ) (says : List ℕ → A) (stride : ℕ) where
   members_entries : ((e : List ℕ) → member (says e) ≡ get_or e 0 0) → (many : ℕ) (l : List ℕ) → all_members n member (entries says stride many l) ≡ members_in n stride many l

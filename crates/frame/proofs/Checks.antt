@@ -2,9 +2,9 @@
 use mathlib.Core.Bool.{Bool, true, false, not, cond}
 use mathlib.Core.List.{List}
 use mathlib.Core.Path.{◌≡◌, refl, sym, ap, ap₂, ◌∙◌}
-use Prim.Native.Nat.{ℕ, ◌+◌, ◌-◌, ◌≤◌}
+use Prim.Native.Nat.{ℕ, ◌+◌, ◌-◌, ◌≤◌, ◌<◌}
 use native.Mathlib.Omega.{arith}
-use borrow.Author.Tests.{eq-eqb, ne_eqb}
+use borrow.Author.Tests.{eq-eqb, ne_eqb, lt-leb, le-leb}
 use lib.ListN.{length, take, drop}
 use Rattle.std.specs.Prelude.{Some, None}
 use Rattle.config.specs.Answers.{Answer, Done, Short, Version, Kind, Sender, Length, Range}
@@ -82,6 +82,12 @@ module _ (f : List ℕ) (n number link : ℕ) (s : None ≡ body_start f → ⊥
     pub no_kind : good_kind (kind_in f) ≡ false → Kind ≡ frame_answer f n number link
     unfolding after_version
     no_kind h = rw (past_version, h)
+
+    pub low_kind : kind_in f < 1 → Kind ≡ frame_answer f n number link
+    low_kind h = no_kind (rw (lt-leb 1 (kind_in f) h))
+
+    pub high_kind : 7 < kind_in f → Kind ≡ frame_answer f n number link
+    high_kind h = no_kind (rw (le-leb 1 (kind_in f) (omega arith), lt-leb (kind_in f) 7 h))
 
     module _ (kind : good_kind (kind_in f) ≡ true) where
       past_kind : frame_answer f n number link ≡ after_kind f n link

@@ -10,7 +10,7 @@ use lib.Seq.{get_or-take}
 use Rattle.wire.specs.Numbers.{part}
 use Rattle.quorum.specs.First.{column, first_repeat, distinct}
 use Rattle.frame.specs.Table.{shape_of, body_length}
-use Rattle.frame.specs.Decode.{entries, signer_count_in, list_place, list_end}
+use Rattle.frame.specs.Decode.{entries, signer_count_in, list_place, list_end, SignersIn}
 use Rattle.frame.proofs.Entries.{length_entries}
 use Rattle.report.specs.Whole.{WholeList, WholeReport, part_of}
 
@@ -40,6 +40,9 @@ module _ {b : List ℕ} (h : WholeReport b) where
   pub report_signers : list_end b + 1 + signer_count_in b * (shape_of 6).signer ≤ length b
   unfolding body_length
   report_signers = omega (arith, h.within)
+
+  pub report_signer : (i : ℕ) → i < signer_count_in b → SignersIn i b
+  report_signer i known = record { known = known; within = h.within }
 
 -- ---- parts
 

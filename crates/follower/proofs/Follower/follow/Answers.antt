@@ -24,32 +24,35 @@ bytes n kind b low high e fit = final_forth b (λ k. (fit k).fits) (sym (checked
 pub keep-requires : goal.keep-requires
 keep-requires c =
     let r = c.requires in
-    (fits_kept c.args.config.n (number_of c.args.kind) c.args.body.now (omega (arith, ap number_of c.in-Final.is)) (number_high c.args.kind) r.0 r.3, search rules)
+    (fits_kept c.args.config.n (number_of c.args.kind) c.args.body.now (omega (arith, c.number-kind.ensures, c.in-6.is)) (number_high c.args.kind) r.0 r.3, search rules)
 
 pub keep_unless-requires : goal.keep_unless-requires
 keep_unless-requires c =
     let r = c.requires in
-    (fits_kept c.args.config.n (number_of c.args.kind) c.args.body.now (omega (arith, ap number_of c.in-FinalEcho.is)) (number_high c.args.kind) r.0 r.3, search rules)
+    (fits_kept c.args.config.n (number_of c.args.kind) c.args.body.now (omega (arith, c.number-kind.ensures, c.in-7.is)) (number_high c.args.kind) r.0 r.3, search rules)
 
 -- the median of what the list says; its signatures are passed over
-pub returns-in-ReportReq : goal.returns-in-ReportReq
+pub returns-in-4 : goal.returns-in-4
 unfolding message_of
-returns-in-ReportReq c =
+returns-in-4 c =
     let a = c.args in
     let said : c.median-median.result ≡ median_of (values_of (map (λ (x : Signed). x.said) (signed_in a.body.now))) = rw (said_in a.body.now, ← c.stride.ensures) c.median-median.ensures in
     let value = to_z-of_z w64 c.median-median.result (search rules) in
-    (rw c.in-ReportReq.is (c.asked.ensures ∙ ap (asked a.config a.self a.time a.commit) (value ∙ said)), rw c.in-ReportReq.is)
+    let fourth : number_of a.kind ≡ 4 = sym c.number-kind.ensures ∙ c.in-4.is in
+    (rw fourth (c.asked.ensures ∙ ap (asked a.config a.self a.time a.commit) (value ∙ said)), rw fourth)
 
-pub returns-in-Final : goal.returns-in-Final
+pub returns-in-6 : goal.returns-in-6
 unfolding message_of
-returns-in-Final c =
+returns-in-6 c =
     let a = c.args in
-    let same = bytes a.config.n (number_of a.kind) a.body.now (omega (arith, ap number_of c.in-Final.is)) (number_high a.kind) c.requires.0 c.type_inv.body in
-    (rw c.in-Final.is c.received.ensures, rw (c.in-Final.is, same) c.keep.ensures)
+    let sixth : number_of a.kind ≡ 6 = sym c.number-kind.ensures ∙ c.in-6.is in
+    let same = bytes a.config.n (number_of a.kind) a.body.now (omega (arith, sixth)) (number_high a.kind) c.requires.0 c.type_inv.body in
+    (rw sixth c.received.ensures, rw (sixth, same) c.keep.ensures)
 
-pub returns-in-FinalEcho : goal.returns-in-FinalEcho
+pub returns-in-7 : goal.returns-in-7
 unfolding message_of
-returns-in-FinalEcho c =
+returns-in-7 c =
     let a = c.args in
-    let same = bytes a.config.n (number_of a.kind) a.body.now (omega (arith, ap number_of c.in-FinalEcho.is)) (number_high a.kind) c.requires.0 c.type_inv.body in
-    (rw c.in-FinalEcho.is c.echoed.ensures, rw (c.in-FinalEcho.is, same) c.keep_unless.ensures)
+    let seventh : number_of a.kind ≡ 7 = sym c.number-kind.ensures ∙ c.in-7.is in
+    let same = bytes a.config.n (number_of a.kind) a.body.now (omega (arith, seventh)) (number_high a.kind) c.requires.0 c.type_inv.body in
+    (rw seventh c.echoed.ensures, rw (seventh, same) c.keep_unless.ensures)
