@@ -12,9 +12,9 @@ use Rattle.config.specs.Answers.{Done}
 use Rattle.config.specs.declared.Config.{Config}
 use Rattle.wire.specs.Numbers.{be_bytes}
 use Rattle.wire.specs.Overlay.{over}
-use Rattle.wire.proofs.Overlay.{over_then}
+use Rattle.wire.proofs.Overlay.{over_none, over_then}
 use Rattle.frame.specs.Message.{Message}
-use Rattle.frame.specs.Table.{table, trailer_length}
+use Rattle.frame.specs.Table.{table, body_length, trailer_length}
 use Rattle.frame.specs.Encode.{head_bytes, body_bytes, trailer_bytes, frame_bytes}
 use Rattle.frame.specs.Check.{body_answer}
 use Rattle.frame.proofs.Readable.{length_most}
@@ -51,6 +51,10 @@ unfolding frames_of
 frames_append c [] ns = refl
 frames_append c (m ∷ ms) ns = ap (λ (l : List ℕ). own_frame c m ++ l) (frames_append c ms ns) ∙ sym (append_assoc (own_frame c m) (frames_of c ms) (frames_of c ns))
 
+pub wrote_none : {c : Config} {o : List ℕ} {at : ℕ} → WroteAll c [] o at o 0
+unfolding frames_of
+wrote_none {c} {o} {at} = record { frames = sym (over_none o at); long = refl }
+
 pub wrote_one : {c : Config} {m : Message} {o exit : List ℕ} {at r : ℕ} → Wrote c m o at exit r → WroteAll c (m ∷ []) o at exit r
 unfolding frames_of
 wrote_one {c} {m} w =
@@ -86,6 +90,10 @@ announced_long c (Some x) = le_refl announcement_size
 fits : (kind m s : ℕ) (o : List ℕ) (at : ℕ) → m ≤ members → s ≤ members → at + outbox_size ≤ announcement_size + length o → Fits kind m s o at
 unfolding table
 fits kind m s o at hm hs h = omega (arith, length_most members (outbox_size - announcement_size - trailer_length) refl kind m s hm hs)
+
+pub announced_fits : (at long : ℕ) → at + outbox_size ≤ long → at + (body_length 1 0 0 + trailer_length) ≤ long
+unfolding body_length
+announced_fits at long h = omega arith
 
 pub asking_fits : (c : Config) (l : Leader) (a : Asking) (o : List ℕ) (at : ℕ) → c.n ≤ members → at + outbox_size ≤ announcement_size + length o → AskingFits c l a o at
 asking_fits c l asking.Nothing o at g h = tt

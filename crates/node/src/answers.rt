@@ -204,9 +204,10 @@ impl Node {
         requires { Sound self.config j (number_of kind) body.now }
         ensures { result ≡ rule_answer self j bits (message_of (number_of kind) body.now) }
     {
-        match kind {
-            Kind::NewEpoch => Ok(()),
-            Kind::Observe | Kind::Report => self.leader_answer(j, bits, kind, body),
+        let number = kind.number();
+        match number {
+            1 => Ok(()),
+            3 | 5 => self.leader_answer(j, bits, kind, body),
             _ => self.follower_answer(j, bits, kind, body),
         }
     }

@@ -36,13 +36,10 @@ impl Node {
         let kind = frame::known_kind(arrival.frame);
         let body = frame::body_of(arrival.frame);
         let link = arrival.link;
-        match kind {
-            Kind::NewEpoch => {
-                self.hearing(link, frame::epoch_of(body), outbox, at, kept, signatures)
-            }
-            Kind::Observe | Kind::Report => {
-                self.led_by(link, kind, body, outbox, at, signatures)
-            }
+        let number = kind.number();
+        match number {
+            1 => self.hearing(link, frame::epoch_of(body), outbox, at, kept, signatures),
+            3 | 5 => self.led_by(link, kind, body, outbox, at, signatures),
             _ => self.following(arrival, outbox, at, kept),
         }
     }

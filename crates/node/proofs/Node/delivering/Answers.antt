@@ -1,5 +1,5 @@
 -- `Node::delivering` meets its contract: the frame's kind picks the part, whose own function promises the rest.
-use Rattle.std.proofs.Common.{◌≡◌}
+use Rattle.std.proofs.Common.{◌≡◌, ap, inl, inr, ◌∙◌}
 use Rattle.frame.specs.Kinds.{number_of}
 use Rattle.frame.specs.Decode.{message_of, message_in}
 use Rattle.node.specs.Event.{whole, delivery_of}
@@ -15,5 +15,7 @@ returns-in_default c =
     let w = whole a.self a.kept.now a.signatures.now in
     let d = delivery_of a.arrival in
     let message : message_in a.arrival.frame.now ≡ message_of kind body = rw (c.known_kind-kind.ensures, c.body_of-body.ensures) in
-    let e = delivering_follows w d c.known_kind-kind.result body c.in_default.not-NewEpoch c.in_default.not-Observe c.in_default.not-Report in
+    let number = c.number-number.ensures in
+    let other = c.in_default.in_default-own.rest in
+    let e = delivering_follows w d c.known_kind-kind.result body (λ e. other.0.1 (number ∙ ap number_of e)) (λ e. other.1 (inl (number ∙ ap number_of e))) (λ e. other.1 (inr (number ∙ ap number_of e))) in
     rw (rw (← message) at e) (c.following.ensures a.signatures.now)
