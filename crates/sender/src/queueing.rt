@@ -1,7 +1,8 @@
 // The slots of the waiting reports: which is free, and which is due first.
 ghost use Rattle.std.specs.Prelude.{◌≡◌, cond, ◌&&◌, ◌||◌, ◌≤◌, ◌<◌, eqb, length, IfSome, unwrap_or};
 ghost use Rattle.config.specs.Limits.{slots, waiting_size};
-ghost use Rattle.sender.specs.State.{slot_in, report_in, time_of, taken};
+ghost use Rattle.report.specs.Newer.{newer};
+ghost use Rattle.sender.specs.State.{slot_in, report_in, taken};
 ghost use Rattle.sender.specs.Waiting.{sooner, earliest, free_in, IsSlot, transmit_at};
 ghost use Rattle.sender.specs.Calls.{with_slot};
 
@@ -10,26 +11,20 @@ use config::Config;
 
 impl Sender {
     // The sender with a slot taken (1) until a time, or free (0).
-    pub(crate) fn with_slot(self, slot: usize, flag: u8, time: u64) -> Sender
+    pub(crate) fn with_slot(mut self, slot: usize, flag: u8, time: u64) -> Sender
         requires { slot < slots }
         ensures { result ≡ with_slot self slot flag time }
     {
-        let mut taken = self.taken;
-        taken[slot] = flag;
-        let mut times = self.times;
-        times[slot] = time;
-        Sender {
-            times,
-            taken,
-            ..self
-        }
+        self.taken[slot] = flag;
+        self.times[slot] = time;
+        self
     }
 
     // When T_transmit is to fire.
     #[tactic(auto, unfolding(crate::specs::Waiting::transmit_at))]
-    pub(crate) fn transmit_at(self, waiting: &[u8], time: u64) -> Transmit
+    pub(crate) fn transmit_at(&self, waiting: &[u8], time: u64) -> Transmit
         requires { waiting_size ≤ length waiting.now }
-        ensures { result ≡ transmit_at self waiting.now time }
+        ensures { result ≡ transmit_at self.now waiting.now time }
     {
         match self.earliest(waiting) {
             Some(slot) => Transmit::Set(self.times[slot].saturating_sub(time)),
@@ -39,9 +34,9 @@ impl Sender {
 
     // The slot of the earliest report, where one waits.
     #[tactic(auto, unfolding(crate::specs::Waiting::earliest_below))]
-    pub(crate) fn earliest(self, waiting: &[u8]) -> Option<usize>
+    pub(crate) fn earliest(&self, waiting: &[u8]) -> Option<usize>
         requires { waiting_size ≤ length waiting.now }
-        ensures { IsSlot result (earliest self waiting.now) }
+        ensures { IsSlot result (earliest self.now waiting.now) }
     {
         let mut best: Option<usize> = None;
         for (slot, flag) in self.taken.iter().enumerate() {
@@ -51,9 +46,9 @@ impl Sender {
     }
 
     // This slot, where a report waits in it that is sooner than the best one so far; else that one.
-    fn better(self, waiting: &[u8], flag: u8, slot: usize, best: Option<usize>) -> Option<usize>
+    fn better(&self, waiting: &[u8], flag: u8, slot: usize, best: Option<usize>) -> Option<usize>
         requires { (waiting_size ≤ length waiting.now) × (slot < slots) × IfSome best (λ other. other < slots) }
-        ensures { IsSlot result (cond (eqb flag 1 && (eqb (unwrap_or best slots) slots || sooner self waiting.now slot (unwrap_or best slots))) slot (unwrap_or best slots)) }
+        ensures { IsSlot result (cond (eqb flag 1 && (eqb (unwrap_or best slots) slots || sooner self.now waiting.now slot (unwrap_or best slots))) slot (unwrap_or best slots)) }
     {
         if flag == 1 && best.is_none_or(|other| self.sooner(waiting, slot, other)) {
             Some(slot)
@@ -63,26 +58,31 @@ impl Sender {
     }
 
     // Whether the report in slot a is due before the one in slot b: by time, then epoch, then round.
-    fn sooner(self, waiting: &[u8], a: usize, b: usize) -> bool
+    fn sooner(&self, waiting: &[u8], a: usize, b: usize) -> bool
         requires { (waiting_size ≤ length waiting.now) × (a < slots) × (b < slots) }
-        ensures { result ≡ sooner self waiting.now a b }
+        ensures { result ≡ sooner self.now waiting.now a b }
     {
-        self.due(waiting, a) < self.due(waiting, b)
+        let first = self.times[a];
+        let second = self.times[b];
+        first < second || first == second && before(numbers_in(waiting, a), numbers_in(waiting, b))
     }
+}
 
-    // By what the reports in the slots are ordered: time, epoch and round.
-    #[tactic(auto, using(crate::proofs::Slots::length_slot))]
-    fn due(self, waiting: &[u8], slot: usize) -> (u64, u32, u8)
-        requires { (waiting_size ≤ length waiting.now) × (slot < slots) }
-        ensures { result ≡ (time_of self slot, (report_in waiting.now slot).epoch, (report_in waiting.now slot).round) }
-    {
-        let bytes = slot_in(waiting, slot);
-        (
-            self.times[slot],
-            frame::epoch_of(bytes),
-            frame::round_of(bytes),
-        )
-    }
+// Whether one pair of epoch and round is before another.
+fn before(one: (u32, u8), other: (u32, u8)) -> bool
+    ensures { result ≡ newer other.0 other.1 one.0 one.1 }
+{
+    one < other
+}
+
+// Epoch and round of the report in a slot.
+#[tactic(auto, using(crate::proofs::Slots::length_slot))]
+fn numbers_in(waiting: &[u8], slot: usize) -> (u32, u8)
+    requires { (waiting_size ≤ length waiting.now) × (slot < slots) }
+    ensures { result ≡ ((report_in waiting.now slot).epoch, (report_in waiting.now slot).round) }
+{
+    let bytes = slot_in(waiting, slot);
+    (frame::epoch_of(bytes), frame::round_of(bytes))
 }
 
 // The bytes of a slot.

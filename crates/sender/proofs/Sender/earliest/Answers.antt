@@ -14,7 +14,7 @@ number (Some slot) k h = h.0
 pub loop-slot-preserved : goal.loop-slot-preserved
 unfolding earliest_below
 loop-slot-preserved c =
-    let before = number c.loop-slot.best (earliest_below c.loop-slot.slot c.args.self c.args.waiting.now) c.loop-slot.invariant in
+    let before = number c.loop-slot.best (earliest_below c.loop-slot.slot c.args.self.now c.args.waiting.now) c.loop-slot.invariant in
     rw add-one (rw before at c.better-best.ensures)
 
 pub returns : goal.returns
