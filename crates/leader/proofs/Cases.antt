@@ -1,17 +1,24 @@
 -- Cases, said once: what each rule with a test comes to where the test holds, and where it does not.
-use mathlib.Core.Path.{◌≡◌, sym, ◌∙◌}
-use Prim.Native.Nat.{ℕ, ◌+◌, ◌*◌, ◌≤◌, ◌<◌}
+use mathlib.Core.Bool.{Bool, true, false, not, ◌&&◌, ◌||◌, and-true, and-false}
+use mathlib.Core.List.{List}
+use mathlib.Core.Path.{◌≡◌, refl, sym, ◌∙◌}
+use Prim.Native.Nat.{ℕ, zero, suc, ◌+◌, ◌-◌, ◌*◌, ◌≤◌, ◌<◌}
+use native.Mathlib.Omega.{arith}
 use borrow.Author.Tests.{eqb-true, eqb-false, eq-eqb, ne_eqb, ltb-true, lt-ltb, le-ltb}
 use lib.Dec.{eqb, ltb}
 use lib.IntN.{ℤ}
 use Rattle.config.specs.declared.Config.{Config}
 use Rattle.config.specs.declared.Timer.TheVariants as timer
+use Rattle.quorum.specs.Marks.{marked}
 use Rattle.quorum.proofs.Cases.{either}
+use Rattle.frame.specs.Message.{Message, Observation, Signed, Attested, new_epoch, observe_req, observe, report_req, report, final, final_echo}
+use Rattle.frame.specs.Decode.{message_of}
+use Rattle.frame.proofs.Messages.{by_kind}
 use Rattle.leader.specs.declared.Leader.{Leader}
 use Rattle.leader.specs.declared.Led.{Led}
 use Rattle.leader.specs.declared.Asking.TheVariants as asking
-use Rattle.leader.specs.State.{collecting, empty_round}
-use Rattle.leader.specs.Takes.{observed_by, reported_by}
+use Rattle.leader.specs.State.{collecting, in_grace, reporting, empty_round}
+use Rattle.leader.specs.Takes.{observed_by, reported_by, takes}
 use Rattle.leader.specs.Rules.{led, stays, next_round, with_observation, with_grace, observing, with_report, now_finished, reporting_from}
 
 -- every round asks for observations; whether T_round runs is told, and kept
@@ -62,3 +69,30 @@ module _ (c : Config) (s : Leader) where
     pub reporting_few : r ≡ reported_by c.n (with_report s j) → r ≤ c.f → reporting_from c s j ≡ stays (with_report s j)
     unfolding reporting_from
     reporting_few e h = rw (le-ltb c.f (reported_by c.n (with_report s j)) (rw (← e) h))
+
+-- ---- which phase, which kind
+
+-- while collecting or in grace, by the phase's number
+open_phase : (phase : ℕ) → 1 ≤ phase → phase ≤ 2 → eqb phase collecting || eqb phase in_grace ≡ true
+open_phase zero low high = absurd (omega arith)
+open_phase (suc zero) low high = refl
+open_phase (suc (suc zero)) low high = refl
+open_phase (suc (suc (suc phase))) low high = absurd (omega arith)
+
+module _ (s : Leader) (leads : Bool) (epoch j e r : ℕ) where
+  pub observe_open : (v : ℤ) (g : List ℕ) → 1 ≤ s.phase → s.phase ≤ 2 → leads && eqb e epoch && eqb r s.round && not (marked s.observed (j - 1)) ≡ takes s leads epoch j (observe e r v g)
+  observe_open v g low high = rw (open_phase s.phase low high, and-true (leads && eqb e epoch))
+
+  pub observe_shut : (v : ℤ) (g : List ℕ) → (s.phase ≡ collecting → ⊥) → (s.phase ≡ in_grace → ⊥) → false ≡ takes s leads epoch j (observe e r v g)
+  observe_shut v g p q = rw (ne_eqb s.phase collecting p, ne_eqb s.phase in_grace q, and-false (leads && eqb e epoch))
+
+  pub report_open : (xs : List Observation) (g : List ℕ) → s.phase ≡ reporting → leads && eqb e epoch && eqb r s.round && not (marked s.reported (j - 1)) ≡ takes s leads epoch j (report e r xs g)
+  report_open xs g h = rw (eq-eqb s.phase reporting h, and-true (leads && eqb e epoch))
+
+  pub report_shut : (xs : List Observation) (g : List ℕ) → (s.phase ≡ reporting → ⊥) → false ≡ takes s leads epoch j (report e r xs g)
+  report_shut xs g h = rw (ne_eqb s.phase reporting h, and-false (leads && eqb e epoch))
+
+-- what holds of every message that is not a leader's holds of a body of another kind than OBSERVE and REPORT
+pub other_kind : (P : Message → Type 0) → ((e : ℕ) → P (new_epoch e)) → ((e r : ℕ) → P (observe_req e r)) → ((e r : ℕ) (xs : List Signed) → P (report_req e r xs)) → ((a : Attested) → P (final a)) → ((a : Attested) → P (final_echo a)) → (kind : ℕ) (b : List ℕ) → 1 ≤ kind → kind ≤ 7 → (kind ≡ 3 → ⊥) → (kind ≡ 5 → ⊥) → P (message_of kind b)
+other_kind P one two four six seven kind b low high p q =
+    by_kind P b kind low high (λ _. one _) (λ _. two _ _) (λ e. absurd (p e)) (λ _. four _ _ _) (λ e. absurd (q e)) (λ _. six _) (λ _. seven _)
