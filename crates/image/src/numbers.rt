@@ -1,5 +1,6 @@
 // What stands in an image one behind the other: numbers of one type, and plain bytes.
-ghost use Rattle.std.specs.Prelude.{◌+◌, ◌*◌, ◌≤◌, length};
+ghost use Rattle.std.specs.Prelude.{◌≡◌, ◌+◌, ◌*◌, ◌≤◌, length};
+ghost use Rattle.wire.specs.Overlay.{over};
 
 use std::array;
 use wire::Number;
@@ -34,8 +35,10 @@ pub fn bytes_at<const N: usize>(s: &[u8], at: usize) -> [u8; N]
 }
 
 // The bytes, from a place on.
+#[tactic(auto, using(wire::proofs::Overlay::lent_whole))]
 pub fn put_bytes(s: &mut [u8], at: usize, bytes: &[u8])
     requires { at + length bytes.now ≤ length s.old }
+    ensures { s.new ≡ over s.old at bytes.now }
 {
     s[at..at + bytes.len()].copy_from_slice(bytes);
 }

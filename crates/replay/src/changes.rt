@@ -1,6 +1,6 @@
 // What a call has changed: every byte of it is printed, and takes the place of the one before.
 ghost use Rattle.std.specs.Prelude.{◌≡◌, ◌+◌, ◌<◌, ◌≤◌, length, IfSome};
-ghost use Rattle.image.specs.Memory.{memory_size, room_of};
+ghost use Rattle.image.specs.Memory.{memory_size, buffer_room};
 
 use image::memory::{Buffer, Memory};
 use std::io;
@@ -29,7 +29,7 @@ pub fn settle_buffer<R: Print>(
     buffer: Buffer,
     after: &[u8],
 ) -> io::Result<()>
-    requires { length after.now ≤ room_of buffer }
+    requires { length after.now ≤ buffer_room buffer }
 {
     settle(rt, memory, letter_of(buffer), buffer.place(), after)
 }

@@ -8,8 +8,8 @@ use std::io::Print;
 
 // The start of a line: the letter of the call and its code.
 pub fn begin<R: Print>(rt: &R, letter: char, answer: Answer) -> io::Result<()> {
-    let code = config::number(answer);
-    print!(rt; "{letter} {code}")
+    print!(rt; "{letter}")?;
+    show::number(rt, u64::from(config::number(answer)))
 }
 
 pub fn end<R: Print>(rt: &R) -> io::Result<()> {
@@ -18,7 +18,7 @@ pub fn end<R: Print>(rt: &R) -> io::Result<()> {
 
 // The results of a node's call.
 pub fn outcome<R: Print>(rt: &R, outcome: Outcome) -> io::Result<()> {
-    print!(rt; " {}", outcome.written)?;
+    show::number(rt, outcome.written as u64)?;
     timers(rt, outcome.timers)?;
     handed(rt, outcome.handed)
 }

@@ -53,10 +53,7 @@ fn take_turn<R: Input + Print>(rt: &R, memory: &mut Memory) -> io::Result<bool> 
 // letter's.
 fn obey<R: Print>(rt: &R, memory: &mut Memory, letter: u8, said: &[u8]) -> io::Result<bool> {
     match letter {
-        b'o' => Ok(memory.fill(Buffer::Outbox, said)),
-        b'k' => Ok(memory.fill(Buffer::Kept, said)),
-        b'g' => Ok(memory.fill(Buffer::Signatures, said)),
-        b'w' => Ok(memory.fill(Buffer::Waiting, said)),
+        b'o' | b'k' | b'g' | b'w' => Ok(memory.fill(Buffer::from(letter), said)),
         b'n' => Ok(memory.put(memory::NODE_AT, image::NODE, said)),
         b's' => Ok(memory.put(memory::SENDER_AT, image::SENDER, said)),
         b'c' => Ok(memory.put(memory::CONTRACT_AT, image::CONTRACT, said)),
