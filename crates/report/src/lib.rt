@@ -169,8 +169,8 @@ pub fn keep(buffer: &mut [u8], body: &[u8])
     ensures { buffer.new ≡ keeping buffer.old body.now }
 {
     let n = body.len();
-    buffer[..n].copy_from_slice(body);
-    buffer[n..Config::KEPT].fill(0);
+    wire::copy(buffer, 0, body, 0, n);
+    wire::zero(buffer, n, Config::KEPT - n);
 }
 
 // Clears a buffer.
